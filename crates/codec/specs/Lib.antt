@@ -1,0 +1,11 @@
+pub mod Limits
+pub mod Chain
+pub mod Report
+pub mod Number
+pub mod Write
+pub mod Ticket
+pub mod TicketList
+pub mod Tickets
+pub mod Reading
+pub mod Edits
+pub mod Laws
