@@ -5,4 +5,6 @@ pub mod Orders
 pub mod TicketLists
 pub mod ListEdits
 pub mod TicketForms
+pub mod ListForms
 pub mod Readings
+pub mod Wholes

@@ -7,12 +7,14 @@ use native.Mathlib.Omega.{arith}
 use lib.Dec.{ltb}
 use lib.ListN.{length, take, drop}
 use denote.Ref.{now, RefT}
+use Rattle.std.proofs.shelf.Lists.{append-nil, append-assoc}
 use Rattle.std.proofs.shelf.Tests.{cond-true, cond-false, lt-ltb, le-ltb}
 use Rattle.std.specs.declared.result.Result.{Result}
 use Rattle.std.specs.declared.result.Result.the-variants.{Ok, Err}
 use Rattle.codec.specs.TicketList.{nextAt}
 use Rattle.codec.specs.Tickets.{listed}
-use Rattle.codec.specs.Reading.{Reading, head, ticket, ended, faulty, headFirst, ticketFirst, listReading, batchHead, packetHead, countOf, comes, remaining, Begun}
+use Rattle.codec.specs.Reading.{Reading, head, ticket, ended, faulty, headFirst, ticketFirst, listReading, batchHead, packetHead, countOf, comes, remaining, seenBy, ticketsOf, partCount, Begun, Steps}
+use Rattle.codec.specs.Chain.{mapOk}
 use Rattle.codec.specs.declared.beds.Beds.{Beds}
 use Rattle.codec.specs.declared.ticket.Ticket.{Ticket}
 use Rattle.codec.specs.declared.tickets.Tickets.{Tickets}
@@ -20,6 +22,8 @@ use Rattle.codec.specs.declared.ticket_list.ListFault.{ListFault}
 use Rattle.codec.specs.declared.whole.WholeFault.{WholeFault}
 use Rattle.codec.specs.declared.whole.WholeFault.the-variants as wf
 use Rattle.codec.specs.declared.reader.Head.{Head}
+use Rattle.codec.specs.declared.reader.Part.{Part}
+use Rattle.codec.specs.declared.reader.Part.the-variants as pt
 use Rattle.codec.specs.declared.reader.Stage.{Stage}
 use Rattle.codec.specs.declared.reader.Stage.the-variants as st
 use Rattle.codec.specs.declared.reader.Reader.{Reader}
@@ -103,3 +107,31 @@ ticket-read s t k next q h e tq tn tb td tl tp =
   at-ticket s (Ok (k, next)) q h e
   ∙ ap (ticket (s .place) (take (next - s .place) (drop (s .place) (now (s .bytes)))) k)
       (sym (rest-is t (s .beds .count) (now (s .bytes)) (s .due - 1) (listed (s .seen) ++ k ∷ []) next tq tn tb td tl tp))
+
+-- ---- all parts at once
+
+-- the tickets handed out so far and those to come, or the fault to come
+abbrev pub allOf : Reader → Result (List Ticket) WholeFault
+allOf s = mapOk (λ ts. seenBy s ++ ts) (ticketsOf (remaining s))
+
+push-front : (seen : List Ticket) (t : Ticket) (r : Result (List Ticket) WholeFault)
+  → mapOk (λ ts. (seen ++ t ∷ []) ++ ts) r ≡ mapOk (λ ts. seen ++ ts) (mapOk (λ ts. t ∷ ts) r)
+push-front seen t (Ok ts) = ap Ok (append-assoc seen (t ∷ []) ts)
+push-front seen t (Err f) = refl
+
+-- a part handed out leaves all as it was, with one part less to come
+pub all-step : (s t : Reader) (p : Part) → Steps s (Ok p) t → (p ≡ pt.End → ⊥) → (allOf t ≡ allOf s) × (partCount (remaining t) < partCount (remaining s))
+all-step s t (pt.Head h) g n =
+  (ap (λ (l : List Ticket). mapOk (λ ts. l ++ ts) (ticketsOf (remaining t))) (g .1) ∙ ap (λ (r : Reading). mapOk (λ ts. seenBy s ++ ts) (ticketsOf r)) (sym (g .0)),
+   subst (λ (r : Reading). partCount (remaining t) < partCount r) (sym (g .0)) (omega arith))
+all-step s t (pt.Ticket offset bytes k) g n =
+  (ap (λ (l : List Ticket). mapOk (λ ts. l ++ ts) (ticketsOf (remaining t))) (g .1) ∙ push-front (seenBy s) k (ticketsOf (remaining t))
+     ∙ ap (λ (r : Reading). mapOk (λ ts. seenBy s ++ ts) (ticketsOf r)) (sym (g .0)),
+   subst (λ (r : Reading). partCount (remaining t) < partCount r) (sym (g .0)) (omega arith))
+all-step s t pt.End g n = absurd (n refl)
+
+pub all-end : (s : Reader) (m : ℕ) → remaining s ≡ ended m → Ok (seenBy s) ≡ allOf s
+all-end s m e = sym (ap (λ (r : Reading). mapOk (λ ts. seenBy s ++ ts) (ticketsOf r)) e ∙ ap Ok (append-nil (seenBy s)))
+
+pub all-fault : (s : Reader) (f : WholeFault) → remaining s ≡ faulty f → Err f ≡ allOf s
+all-fault s f e = sym (ap (λ (r : Reading). mapOk (λ ts. seenBy s ++ ts) (ticketsOf r)) e)

@@ -7,5 +7,7 @@ pub mod Ticket
 pub mod TicketList
 pub mod Tickets
 pub mod Reading
+pub mod Batch
+pub mod Packet
 pub mod Edits
 pub mod Laws

@@ -10,7 +10,7 @@ use Rattle.std.specs.declared.result.Result.{Result}
 use Rattle.std.specs.declared.result.Result.the-variants.{Ok, Err}
 use Rattle.codec.specs.Limits.{batchTickets, packetTickets, maxRound}
 use Rattle.codec.specs.Chain.{andThen, raise, mapOk}
-use Rattle.codec.specs.Ticket.{rangedAt}
+use Rattle.codec.specs.Ticket.{rangedAt, ticketBytes}
 use Rattle.codec.specs.TicketList.{countAt, nextAt}
 use Rattle.codec.specs.Tickets.{listed}
 use Rattle.codec.specs.declared.ticket.Ticket.{Ticket}
@@ -101,6 +101,10 @@ packetReading n bs = comes st.PacketHead n bs packetTickets [] 0
 unfoldable pub remaining : Reader → Reading
 remaining s = comes (s .stage) (s .beds .count) (now (s .bytes)) (s .due) (listed (s .seen)) (s .place)
 
+-- the tickets that a reader has handed out
+abbrev pub seenBy : Reader → List Ticket
+seenBy s = listed (s .seen)
+
 -- a reader that has passed the head
 pub record Begun (s : Reader) (h : Head) (next : ℕ) (t : Reader) : Type 0 where
   pub stage : t .stage ≡ st.List
@@ -110,13 +114,18 @@ pub record Begun (s : Reader) (h : Head) (next : ℕ) (t : Reader) : Type 0 wher
   pub beds : t .beds ≡ s .beds
   pub seen : t .seen ≡ s .seen
 
--- What a reader hands out is the first of what was to come, and the rest is still to come. At the end and at a fault it
--- stays, so that it answers the same again.
+-- What a reader hands out is the first of what was to come, and the rest is still to come; a ticket is then among those
+-- handed out. At the end and at a fault the reader stays, so that it answers the same again.
 abbrev pub Steps : Reader → Result Part WholeFault → Reader → Type 0
-Steps s (Ok (pt.Head h)) t = remaining s ≡ head h (remaining t)
-Steps s (Ok (pt.Ticket offset bytes value)) t = remaining s ≡ ticket offset (now bytes) value (remaining t)
+Steps s (Ok (pt.Head h)) t = (remaining s ≡ head h (remaining t)) × (seenBy t ≡ seenBy s)
+Steps s (Ok (pt.Ticket offset bytes value)) t = (remaining s ≡ ticket offset (now bytes) value (remaining t)) × (seenBy t ≡ seenBy s ++ value ∷ [])
 Steps s (Ok pt.End) t = (remaining s ≡ ended (length (now (s .bytes)))) × (t ≡ s)
 Steps s (Err f) t = (remaining s ≡ faulty f) × (t ≡ s)
+
+-- the parts that a list of tickets is to give from a place on: each ticket with its form, and the end
+abbrev pub partsAt : ℕ → List Ticket → Reading
+partsAt at [] = ended at
+partsAt at (t ∷ ts) = ticket at (ticketBytes t) t (partsAt (at + length (ticketBytes t)) ts)
 
 -- ---- all at once
 

@@ -1,8 +1,10 @@
 // Bytes to tickets and back: numbers, tickets, batches and packets, read and written.
+pub mod batch;
 pub mod beds;
 pub mod laws;
 pub mod limits;
 pub mod number;
+pub mod packet;
 pub mod reader;
 pub mod refusal;
 pub mod report;

@@ -1,9 +1,12 @@
 ghost use mathlib.Core.Path.{_≡_};
+ghost use mathlib.Core.List.{[], _++_};
 ghost use Prim.Native.Nat.{_+_, _<_, _≤_};
 ghost use lib.ListN.{length};
 ghost use Rattle.std.specs.Results.{Cases};
 ghost use Rattle.codec.specs.Limits.{packetTickets};
-ghost use Rattle.codec.specs.Reading.{batchHead, packetHead, headAt, countOf, batchReading, packetReading, remaining, Begun, Steps};
+ghost use Rattle.codec.specs.Chain.{mapOk};
+ghost use Rattle.codec.specs.Tickets.{listed};
+ghost use Rattle.codec.specs.Reading.{batchHead, packetHead, headAt, countOf, batchReading, packetReading, remaining, seenBy, ticketsOf, Begun, Steps};
 use super::Head;
 use super::Part;
 use super::Reader;
@@ -13,6 +16,7 @@ use crate::limits::BATCH_TICKETS;
 use crate::limits::MAX_ROUND;
 use crate::limits::PACKET_TICKETS;
 use crate::number::read_number;
+use crate::ticket::Ticket;
 use crate::ticket_list::read_count;
 use crate::ticket_list::read_next;
 use crate::tickets::Tickets;
@@ -64,14 +68,16 @@ fn read_packet_head(bytes: &[u8], beds: Beds, most: usize) -> Result<(Head, usiz
 impl<'a> Reader<'a> {
     /// A reader of a batch, for a group of so many beds.
     pub fn batch(bytes: &'a [u8], beds: Beds) -> Self
-        ensures { λ r. ⌜ remaining r ≡ batchReading (beds .count) (now (bytes .entry)) ⌝ }
+        ensures comes { λ r. ⌜ remaining r ≡ batchReading (beds .count) (now (bytes .entry)) ⌝ }
+        ensures seen { λ r. ⌜ seenBy r ≡ [] ⌝ }
     {
         Reader { bytes, beds, stage: Stage::BatchHead, place: 0, due: BATCH_TICKETS, seen: Tickets::new() }
     }
 
     /// A reader of a packet, for a group of so many beds.
     pub fn packet(bytes: &'a [u8], beds: Beds) -> Self
-        ensures { λ r. ⌜ remaining r ≡ packetReading (beds .count) (now (bytes .entry)) ⌝ }
+        ensures comes { λ r. ⌜ remaining r ≡ packetReading (beds .count) (now (bytes .entry)) ⌝ }
+        ensures seen { λ r. ⌜ seenBy r ≡ [] ⌝ }
     {
         Reader { bytes, beds, stage: Stage::PacketHead, place: 0, due: PACKET_TICKETS, seen: Tickets::new() }
     }
@@ -92,6 +98,24 @@ impl<'a> Reader<'a> {
                 Ok(Part::Head(head))
             }
             Stage::List => self.next_in_list(),
+        }
+    }
+
+    /// The tickets that were handed out so far.
+    pub fn tickets(&self) -> &[Ticket]
+        ensures { λ r. ⌜ now r ≡ seenBy (now (self .entry)) ⌝ }
+    {
+        self.seen.as_slice()
+    }
+
+    // Reads to the end: those handed out so far and all that come.
+    pub(crate) fn finish(&mut self) -> Result<Tickets, WholeFault>
+        ensures { λ r. ⌜ mapOk listed r ≡ mapOk (λ ts. seenBy (now (self .entry)) ++ ts) (ticketsOf (remaining (now (self .entry)))) ⌝ }
+    {
+        'parts: loop {
+            if let Part::End = self.next()? {
+                return Ok(self.seen);
+            }
         }
     }
 

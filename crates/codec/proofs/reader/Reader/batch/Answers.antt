@@ -9,4 +9,4 @@ use Rattle.codec.proofs.reader.Reader.batch.Needs as need
 
 pub returns : need.returns
 unfolding batchReading remaining
-returns c = ap (λ (seen : List Ticket). comes st.BatchHead (c .args .beds .count) (c .args .bytes .now) batchTickets seen 0) (c .new .ensures .none)
+returns c = record { comes = ap (λ (seen : List Ticket). comes st.BatchHead (c .args .beds .count) (c .args .bytes .now) batchTickets seen 0) (c .new .ensures .none); seen = c .new .ensures .none }

@@ -1,5 +1,6 @@
 use mathlib.Core.Path.{_≡_, refl, sym, ap, _∙_}
 use Rattle.std.proofs.shelf.Results.{err-from-errBy}
+use Rattle.codec.specs.Tickets.{listed}
 use Rattle.codec.proofs.Readings.{at-batch, at-packet, head-read, head-fault}
 use Rattle.codec.proofs.reader.Reader.next.Needs as need
 
@@ -18,9 +19,9 @@ returns-in-Break-head-2 c =
 pub returns-in-Continue-head : need.returns-in-Continue-head
 returns-in-Continue-head c =
   let s = c .args .self .now in
-  head-read s (c .begin .last .self) _ _ _ (at-batch s (c .in-BatchHead .is)) (c .in-Continue-head .ensures tt .value) (c .begin .ensures)
+  (head-read s (c .begin .last .self) _ _ _ (at-batch s (c .in-BatchHead .is)) (c .in-Continue-head .ensures tt .value) (c .begin .ensures), ap listed (c .begin .ensures .seen))
 
 pub returns-in-Continue-head-2 : need.returns-in-Continue-head-2
 returns-in-Continue-head-2 c =
   let s = c .args .self .now in
-  head-read s (c .begin-in-PacketHead .last .self) _ _ _ (at-packet s (c .in-PacketHead .is)) (c .in-Continue-head-2 .ensures tt .value) (c .begin-in-PacketHead .ensures)
+  (head-read s (c .begin-in-PacketHead .last .self) _ _ _ (at-packet s (c .in-PacketHead .is)) (c .in-Continue-head-2 .ensures tt .value) (c .begin-in-PacketHead .ensures), ap listed (c .begin-in-PacketHead .ensures .seen))

@@ -24,4 +24,4 @@ pub returns : need.returns
 returns c =
   let s = c .args .self .now in
   let e = c .in-Continue-ticket .ensures tt .value ∙ ap (λ (l : List Ticket). nextAt (s .beds .count) (s .bytes .now) l (s .place)) (c .as-slice .ensures) in
-  ticket-read s _ (c .in-Continue-ticket .ticket) (c .in-Continue-ticket .next) (c .pre) (omega arith) e (c .pre) refl refl refl (c .push .ensures .after) refl
+  (ticket-read s _ (c .in-Continue-ticket .ticket) (c .in-Continue-ticket .next) (c .pre) (omega arith) e (c .pre) refl refl refl (c .push .ensures .after) refl, c .push .ensures .after)

@@ -9,4 +9,4 @@ use Rattle.codec.proofs.reader.Reader.packet.Needs as need
 
 pub returns : need.returns
 unfolding packetReading remaining
-returns c = ap (λ (seen : List Ticket). comes st.PacketHead (c .args .beds .count) (c .args .bytes .now) packetTickets seen 0) (c .new .ensures .none)
+returns c = record { comes = ap (λ (seen : List Ticket). comes st.PacketHead (c .args .beds .count) (c .args .bytes .now) packetTickets seen 0) (c .new .ensures .none); seen = c .new .ensures .none }
