@@ -8,3 +8,4 @@ pub mod TicketForms
 pub mod ListForms
 pub mod Readings
 pub mod Wholes
+pub mod ListWrites

@@ -110,11 +110,14 @@ ticket-stretch n bs at t next r =
   let k : length (ticketBytes t) ≡ next - at = omega (arith, r .after, r .within) in
   ap (take (next - at)) (r .bytes) ∙ take-at (ticketBytes t) (drop next bs) (next - at) k
 
+pub ticket-length : (t : Ticket) → length (ticketBytes t) ≡ length (form (t .paths)) + length (form (t .origin)) + length (form (t .number)) + length (form (t .sheet))
+unfolding ticketBytes
+ticket-length t = four-length (form (t .paths)) (form (t .origin)) (form (t .number)) (form (t .sheet))
+
 -- at most eight bytes: three for the paths and the number, one for the origin and the sheet
 pub ticket-short : (t : Ticket) → InRange maxBeds t → length (ticketBytes t) ≤ 8
-unfolding ticketBytes
 ticket-short t r =
-  let l = four-length (form (t .paths)) (form (t .origin)) (form (t .number)) (form (t .sheet)) in
+  let l = ticket-length t in
   let a = form-short (t .paths) in
   let b = ap length (form-one (t .origin) (omega (arith, r .origin))) in
   let c = form-short (t .number) in

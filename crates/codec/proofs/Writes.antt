@@ -62,3 +62,9 @@ put-front was xs = let z : 0 + length xs ≡ length xs = omega arith in ap (λ (
 -- what a write at the beginning has left, by the length that it answers
 pub wrote-front : (was xs now : List ℕ) (len : ℕ) → len ≡ 0 + length xs → now ≡ putAt was 0 xs → now ≡ xs ++ drop len was
 wrote-front was xs now len n e = let m : length xs ≡ len = omega arith in e ∙ put-front was xs ∙ ap (λ (k : ℕ). xs ++ drop k was) m
+
+-- the next write begins where the last ended
+pub put-next : (was once twice : List ℕ) (at next : ℕ) (xs ys : List ℕ) → once ≡ putAt was at xs → next ≡ at + length xs → twice ≡ putAt once next ys → at + length xs ≤ length was
+  → twice ≡ putAt was at (xs ++ ys)
+put-next was once twice at next xs ys e n f h =
+  f ∙ ap (λ (w : List ℕ). putAt w next ys) e ∙ ap (λ (k : ℕ). putAt (putAt was at xs) k ys) n ∙ put-put was at xs ys h

@@ -9,7 +9,7 @@ ghost use mathlib.Core.Path.{_≡_};
 ghost use Prim.Native.Nat.{ℕ, _+_, _-_, _*_, _<_, _≤_};
 ghost use lib.ListN.{length};
 ghost use Rattle.std.specs.Results.{Cases};
-ghost use Rattle.codec.specs.Limits.{numberEnd};
+ghost use Rattle.codec.specs.Limits.{numberEnd, numberBytes};
 ghost use Rattle.codec.specs.Number.{numberAt, form};
 ghost use Rattle.codec.specs.Report.{numberReport};
 ghost use Rattle.codec.specs.Write.{putAt, Wrote};
@@ -78,7 +78,8 @@ pub fn read_number(bytes: &[u8], at: usize) -> Result<(u32, usize), NumberFault>
 /// How many bytes the form of `value` has.
 pub(crate) fn number_len(value: u32) -> usize
     requires { ⌜ value < numberEnd ⌝ }
-    ensures { λ r. ⌜ r ≡ length (form value) ⌝ }
+    ensures value { λ r. ⌜ r ≡ length (form value) ⌝ }
+    ensures short { λ r. ⌜ r ≤ numberBytes ⌝ }
 {
     let mut len = 1;
     let mut rest = value;
@@ -91,7 +92,8 @@ pub(crate) fn number_len(value: u32) -> usize
 
 /// Writes the form of `value` at `at`, and answers the offset after it.
 pub(crate) fn put_number(out: &mut [u8], at: usize, value: u32) -> usize
-    requires { ⌜ value < numberEnd ⌝ ∗ ⌜ at + length (form value) ≤ length (now out) ⌝ }
+    requires below { ⌜ value < numberEnd ⌝ }
+    requires room { ⌜ at + length (form value) ≤ length (now out) ⌝ }
     ensures next { λ r. ⌜ r ≡ at + length (form value) ⌝ }
     ensures after { λ _. ⌜ now (out .exit) ≡ putAt (now (out .entry)) at (form value) ⌝ }
 {

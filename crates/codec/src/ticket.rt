@@ -11,7 +11,9 @@ ghost use Prim.Native.Nat.{ℕ, _+_, _<_, _≤_};
 ghost use lib.ListN.{length};
 ghost use Rattle.std.specs.Results.{Cases};
 ghost use Rattle.std.specs.Orderings.{Decides};
-ghost use Rattle.codec.specs.Ticket.{standsBefore, sameIdentity, InRange, fieldAt, ticketAt};
+ghost use Rattle.codec.specs.Limits.{maxBeds};
+ghost use Rattle.codec.specs.Ticket.{standsBefore, sameIdentity, InRange, fieldAt, ticketAt, ticketBytes};
+ghost use Rattle.codec.specs.Write.{putAt, Wrote};
 ghost use Rattle.codec.specs.Report.{ticketReport};
 ghost use Rattle.codec.specs.declared.ticket.TicketFault.the-variants.{Number as TicketNumber};
 use super::beds::Beds;
@@ -22,7 +24,10 @@ use super::limits::MIN_NUMBER;
 use super::number::NumberFault;
 use super::number::NumberFaultDebug;
 use super::number::NumberFaultPartialEq;
+use super::number::number_len;
+use super::number::put_number;
 use super::number::read_number;
+use super::refusal::WriteRefusal;
 use super::report::Cause;
 use super::report::Layer;
 use super::report::Report;
@@ -119,4 +124,41 @@ pub fn read_ticket(bytes: &[u8], at: usize, beds: Beds) -> Result<(Ticket, usize
     let (sheet, at) = read_field(bytes, at, 0, MAX_SHEET + 1)?;
     let ticket = Ticket { paths, origin: origin as u8, number: number as u16, sheet: sheet as u8 };
     Ok((ticket, at))
+}
+
+// How many bytes the form of a ticket has.
+pub(crate) fn ticket_len(ticket: &Ticket) -> usize
+    requires { ⌜ InRange maxBeds (now ticket) ⌝ }
+    ensures { λ r. ⌜ r ≡ length (ticketBytes (now (ticket .entry))) ⌝ }
+{
+    number_len(ticket.paths)
+        + number_len(u32::from(ticket.origin))
+        + number_len(u32::from(ticket.number))
+        + number_len(u32::from(ticket.sheet))
+}
+
+// Writes the form of a ticket at `at`, and answers the offset after it.
+pub(crate) fn put_ticket(out: &mut [u8], at: usize, ticket: &Ticket) -> usize
+    requires ranged { ⌜ InRange maxBeds (now ticket) ⌝ }
+    requires room { ⌜ at + length (ticketBytes (now ticket)) ≤ length (now out) ⌝ }
+    ensures next { λ r. ⌜ r ≡ at + length (ticketBytes (now (ticket .entry))) ⌝ }
+    ensures after { λ _. ⌜ now (out .exit) ≡ putAt (now (out .entry)) at (ticketBytes (now (ticket .entry))) ⌝ }
+{
+    let at = put_number(out, at, ticket.paths);
+    let at = put_number(out, at, u32::from(ticket.origin));
+    let at = put_number(out, at, u32::from(ticket.number));
+    put_number(out, at, u32::from(ticket.sheet))
+}
+
+/// Writes the form of a ticket at the beginning of `out`, for a group of so many beds, and answers its length.
+pub fn write_ticket(out: &mut [u8], ticket: &Ticket, beds: Beds) -> Result<usize, WriteRefusal>
+    ensures { λ r. ⌜ Wrote (InRange (beds .count) (now (ticket .entry))) (ticketBytes (now (ticket .entry))) (now (out .entry)) r (now (out .exit)) ⌝ }
+{
+    if !ticket.in_range(beds) {
+        return Err(WriteRefusal::NoForm);
+    }
+    if out.len() < ticket_len(ticket) {
+        return Err(WriteRefusal::NoRoom);
+    }
+    Ok(put_ticket(out, 0, ticket))
 }

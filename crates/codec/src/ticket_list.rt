@@ -1,16 +1,21 @@
 // Lists of tickets: in ticket order, no identity twice. Their form is a count and that many tickets.
 ghost use mathlib.Core.Path.{_≡_};
-ghost use Prim.Native.Nat.{ℕ, _+_, _<_, _≤_};
+ghost use Prim.Native.Nat.{ℕ, _+_, _*_, _<_, _≤_};
 ghost use lib.ListN.{length};
 ghost use Rattle.std.specs.Results.{Cases};
 ghost use Rattle.std.specs.Orderings.{Decides};
-ghost use Rattle.codec.specs.TicketList.{known as knownIn, follows, countAt, nextAt, Sound};
+ghost use Rattle.codec.specs.Limits.{maxBeds, packetTickets};
+ghost use Rattle.codec.specs.Ticket.{InRange};
+ghost use Rattle.codec.specs.TicketList.{known as knownIn, follows, countAt, nextAt, Each, Sound, ticketsBytes, listBytes};
+ghost use Rattle.codec.specs.Write.{putAt};
 ghost use Rattle.codec.specs.Report.{listReport};
 ghost use Rattle.codec.specs.declared.ticket_list.ListFault.the-variants.{Number as ListNumber, Ticket as ListTicket};
 use super::beds::Beds;
 use super::number::NumberFault;
 use super::number::NumberFaultDebug;
 use super::number::NumberFaultPartialEq;
+use super::number::number_len;
+use super::number::put_number;
 use super::number::read_number;
 use super::report::Cause;
 use super::report::Layer;
@@ -19,7 +24,9 @@ use super::ticket::Ticket;
 use super::ticket::TicketFault;
 use super::ticket::TicketFaultDebug;
 use super::ticket::TicketFaultPartialEq;
+use super::ticket::put_ticket;
 use super::ticket::read_ticket;
+use super::ticket::ticket_len;
 
 /// A fault in a list of tickets.
 #[derive(Clone, Copy, PartialEq, Debug)]
@@ -131,4 +138,54 @@ pub fn is_sound(tickets: &[Ticket], beds: Beds, most: usize) -> bool
         }
     }
     true
+}
+
+// How many bytes the forms of the tickets have.
+fn tickets_len(tickets: &[Ticket]) -> usize
+    requires ranged { ⌜ Each (InRange maxBeds) (now tickets) ⌝ }
+    requires few { ⌜ length (now tickets) ≤ packetTickets ⌝ }
+    ensures value { λ r. ⌜ r ≡ length (ticketsBytes (now (tickets .entry))) ⌝ }
+    ensures short { λ r. ⌜ r ≤ 8 * length (now (tickets .entry)) ⌝ }
+{
+    let mut len = 0;
+    for ticket in tickets {
+        len += ticket_len(ticket);
+    }
+    len
+}
+
+// Writes the forms of the tickets from `at` on, and answers the offset after them.
+fn put_tickets(out: &mut [u8], at: usize, tickets: &[Ticket]) -> usize
+    requires ranged { ⌜ Each (InRange maxBeds) (now tickets) ⌝ }
+    requires room { ⌜ at + length (ticketsBytes (now tickets)) ≤ length (now out) ⌝ }
+    ensures next { λ r. ⌜ r ≡ at + length (ticketsBytes (now (tickets .entry))) ⌝ }
+    ensures after { λ _. ⌜ now (out .exit) ≡ putAt (now (out .entry)) at (ticketsBytes (now (tickets .entry))) ⌝ }
+{
+    let mut next = at;
+    for ticket in tickets {
+        next = put_ticket(out, next, ticket);
+    }
+    next
+}
+
+// How many bytes a list has: its count and its tickets.
+pub(crate) fn list_len(tickets: &[Ticket]) -> usize
+    requires ranged { ⌜ Each (InRange maxBeds) (now tickets) ⌝ }
+    requires few { ⌜ length (now tickets) ≤ packetTickets ⌝ }
+    ensures value { λ r. ⌜ r ≡ length (listBytes (now (tickets .entry))) ⌝ }
+    ensures short { λ r. ⌜ r ≤ 1 + 8 * length (now (tickets .entry)) ⌝ }
+{
+    number_len(tickets.len() as u32) + tickets_len(tickets)
+}
+
+// Writes a list at `at`, and answers the offset after it.
+pub(crate) fn put_list(out: &mut [u8], at: usize, tickets: &[Ticket]) -> usize
+    requires ranged { ⌜ Each (InRange maxBeds) (now tickets) ⌝ }
+    requires few { ⌜ length (now tickets) ≤ packetTickets ⌝ }
+    requires room { ⌜ at + length (listBytes (now tickets)) ≤ length (now out) ⌝ }
+    ensures next { λ r. ⌜ r ≡ at + length (listBytes (now (tickets .entry))) ⌝ }
+    ensures after { λ _. ⌜ now (out .exit) ≡ putAt (now (out .entry)) at (listBytes (now (tickets .entry))) ⌝ }
+{
+    let next = put_number(out, at, tickets.len() as u32);
+    put_tickets(out, next, tickets)
 }

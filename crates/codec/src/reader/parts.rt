@@ -16,6 +16,7 @@ use crate::limits::BATCH_TICKETS;
 use crate::limits::MAX_ROUND;
 use crate::limits::PACKET_TICKETS;
 use crate::number::read_number;
+use crate::packet::MARK;
 use crate::ticket::Ticket;
 use crate::ticket_list::read_count;
 use crate::ticket_list::read_next;
@@ -23,9 +24,6 @@ use crate::tickets::Tickets;
 use crate::whole::WholeFault;
 use crate::whole::WholeFromList;
 use crate::whole::WholeFromNumber;
-
-/// What a packet begins with.
-pub const MARK: [u8; 4] = [b'J', b'O', b'B', 0x47];
 
 fn read_batch_head(bytes: &[u8], most: usize) -> Result<(Head, usize), WholeFault>
     requires { ⌜ most ≤ packetTickets ⌝ }

@@ -4,7 +4,7 @@ use native.Mathlib.Omega.{arith}
 use lib.ListN.{length}
 use Rattle.codec.specs.Limits.{numberBytes}
 use Rattle.codec.specs.Number.{groups, form}
-use Rattle.codec.proofs.Numbers.{room, form-is, groups-more, groups-last}
+use Rattle.codec.proofs.Numbers.{room, form-is, groups-more, groups-last, form-short}
 use Rattle.codec.proofs.number.number_len.Needs as need
 
 pub loop-rest-holds : need.loop-rest-holds
@@ -23,4 +23,5 @@ pub returns : need.returns
 returns c =
   let i = c .loop-rest .inv in
   let e = ap length (groups-last (i .0) (c .loop-rest .rest) (i .1) (omega arith)) in
-  omega (arith, e, i .4)
+  let v : c .loop-rest .len ≡ length (form (c .args .value)) = omega (arith, e, i .4) in
+  record { value = v; short = omega (arith, form-short (c .args .value)) }
