@@ -9,3 +9,4 @@ pub mod ListForms
 pub mod Readings
 pub mod Wholes
 pub mod ListWrites
+pub mod FormLaws

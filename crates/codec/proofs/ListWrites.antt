@@ -5,14 +5,20 @@ use Prim.Native.Nat.{ℕ, zero, suc, _+_, _*_, _<_, _≤_}
 use native.Mathlib.Omega.{arith}
 use lib.ListN.{length, getD, take, drop}
 use Rattle.std.proofs.shelf.Lists.{append-nil, append-assoc, length-append, take-more, take-all, take-append-drop}
-use Rattle.codec.specs.Limits.{maxBeds, packetTickets}
+use Rattle.codec.specs.Limits.{maxBeds, batchTickets, packetTickets, maxBatchBytes, maxPacketBytes}
 use Rattle.codec.specs.Number.{form}
 use Rattle.codec.specs.Ticket.{InRange, ticketBytes}
 use Rattle.codec.specs.TicketList.{none, Each, Sound, ticketsBytes, listBytes}
 use Rattle.codec.specs.Reading.{mark}
-use Rattle.codec.specs.Packet.{packetBytes}
+use Rattle.codec.specs.Write.{Wrote}
+use Rattle.codec.specs.Batch.{batchBytes}
+use Rattle.codec.specs.Packet.{SoundPacket, packetBytes}
+use Rattle.codec.specs.Value.{BatchValue}
+use Rattle.codec.specs.declared.refusal.WriteRefusal.{WriteRefusal}
+use Rattle.codec.specs.declared.refusal.WriteRefusal.the-variants.{NoForm, NoRoom}
+use Rattle.std.specs.declared.result.Result.the-variants.{Err}
 use Rattle.codec.specs.declared.ticket.Ticket.{Ticket}
-use Rattle.codec.proofs.Numbers.{form-one}
+use Rattle.codec.proofs.Numbers.{form-one, form-some}
 use Rattle.codec.proofs.TicketLists.{each-weaker}
 use Rattle.codec.proofs.TicketForms.{ticket-short, in-range-more}
 
@@ -75,3 +81,33 @@ packet-length bed round ts =
   let b = length-append (mark ++ form bed) (form round) in
   let c = length-append (mark ++ form bed ++ form round) (listBytes ts) in
   omega arith
+
+-- a batch has 1 to 65 bytes
+pub batch-some : (ts : List Ticket) → 1 ≤ length (batchBytes ts)
+batch-some ts = let l = list-length ts in let s = form-some (length ts) in omega arith
+
+pub batch-short : (n : ℕ) (ts : List Ticket) → n ≤ maxBeds → Sound n batchTickets ts → length (batchBytes ts) ≤ maxBatchBytes
+batch-short n ts h s = omega (arith, list-short ts (sound-ranged n batchTickets ts h s) (omega (arith, s .few)), s .few)
+
+-- a packet has 7 to 135 bytes
+pub packet-some : (bed round : ℕ) (ts : List Ticket) → 7 ≤ length (packetBytes bed round ts)
+packet-some bed round ts =
+  let l = packet-length bed round ts in
+  let b = form-some bed in
+  let r = form-some round in
+  let c = batch-some ts in
+  omega arith
+
+pub packet-short : (n bed round : ℕ) (ts : List Ticket) → n ≤ maxBeds → SoundPacket n bed round ts → length (packetBytes bed round ts) ≤ maxPacketBytes
+packet-short n bed round ts h s =
+  let l = packet-length bed round ts in
+  let b = ap length (form-one bed (omega (arith, s .bed-in))) in
+  let r = ap length (form-one round (omega (arith, s .round-in))) in
+  let t = list-short ts (sound-ranged n packetTickets ts h (s .sound)) (s .sound .few) in
+  omega (arith, s .sound .few)
+
+-- a batch that was refused has no form, where the buffer has room for any
+pub batch-refused : (n : ℕ) (ts : List Ticket) (f : WriteRefusal) (was after : List ℕ) → n ≤ maxBeds → maxBatchBytes ≤ length was
+  → Wrote (Sound n batchTickets ts) (batchBytes ts) was (Err f) after → BatchValue n ts (Err f)
+batch-refused n ts NoForm was after h m w = w .0
+batch-refused n ts NoRoom was after h m w = omega (arith, w .1, batch-short n ts h (w .0))

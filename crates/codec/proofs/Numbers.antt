@@ -13,7 +13,8 @@ use Rattle.std.proofs.shelf.Tests.{cond-true, cond-false, lt-ltb, le-ltb, cases
 use Rattle.std.specs.declared.result.Result.{Result}
 use Rattle.std.specs.declared.result.Result.the-variants.{Ok, Err}
 use Rattle.codec.specs.Limits.{numberBytes, numberEnd}
-use Rattle.codec.specs.Number.{groups, form, above, groupsAt, faultAt, numberAt, Bytes}
+use Rattle.codec.specs.Number.{groups, form, above, groupsAt, faultAt, numberAt, Bytes, groupValue, Continued}
+use Rattle.codec.specs.Laws.{NumberLaws}
 use Rattle.codec.specs.declared.number.NumberCause.{NumberCause}
 use Rattle.codec.specs.declared.number.NumberCause.the-variants.{Ends, NotShortest}
 use Rattle.codec.specs.declared.number.NumberFault.{NumberFault}
@@ -130,11 +131,14 @@ groups-last zero v p h = absurd (omega arith)
 groups-last (suc k) v p h = cond-true (ltb v 128) _ _ (lt-ltb v 128 h)
 
 -- a number of 128 or more: its lowest group, and the form of the rest
+pub groups-step : (k v : ℕ) → v < room (suc k) → 128 ≤ v → (0 < k) × (v / 128 < room k) × (groups (suc k) v ≡ (v % 128 + 128) ∷ groups k (v / 128))
+groups-step zero v h g = absurd (omega arith)
+groups-step (suc k) v h g = (omega arith, omega arith, cond-false (ltb v 128) _ _ (le-ltb v 128 g))
+
+-- the same with any number of groups
 pub groups-more : (k v : ℕ) → v < room k → 128 ≤ v → (j : ℕ) × (k ≡ suc j) × (0 < j) × (v / 128 < room j) × (groups k v ≡ (v % 128 + 128) ∷ groups j (v / 128))
 groups-more zero v h g = absurd (omega arith)
-groups-more (suc zero) v h g = absurd (omega arith)
-groups-more (suc (suc j)) v h g =
-  (suc j, refl, omega arith, omega arith, cond-false (ltb v 128) _ _ (le-ltb v 128 g))
+groups-more (suc k) v h g = let s = groups-step k v h g in (k, refl, s .0, s .1, s .2)
 
 pub form-is : (v : ℕ) → form v ≡ groups numberBytes v
 unfolding form
@@ -188,13 +192,12 @@ groups-back (suc k) v bs done at post p h z e =
           ∙ ap (λ (x : ℕ). Ok (x, at + 1)) (d .1) ∙ ap (λ (x : ℕ). Ok (v, x)) (sym n),
         ap (λ (x : ℕ). drop x bs) n ∙ d .2))
   | inr g ↦
-      (let m = groups-more (suc k) v h g in
-       let j : m .0 ≡ k = omega (arith, m .1) in
-       let f : groups (suc k) v ≡ (v % 128 + 128) ∷ groups k (v / 128) = cond-false (ltb v 128) _ _ (le-ltb v 128 g) in
+      (let m = groups-step k v h g in
+       let f : groups (suc k) v ≡ (v % 128 + 128) ∷ groups k (v / 128) = m .2 in
        let d = drop-first bs at (v % 128 + 128) (groups k (v / 128) ++ post) (e ∙ ap (λ (x : List ℕ). x ++ post) f) in
        let b : 128 ≤ getD bs at 0 = omega (arith, d .1) in
        let nz : v / 128 ≡ 0 → 0 < done + 1 → ⊥ = λ q w. omega arith in
-       let r = groups-back k (v / 128) bs (done + 1) (at + 1) post (omega (arith, j, m .2)) (omega arith) nz (d .2) in
+       let r = groups-back k (v / 128) bs (done + 1) (at + 1) post (m .0) (m .1) nz (d .2) in
        let n : at + 1 + length (groups k (v / 128)) ≡ at + length (groups (suc k) v) = omega (arith, ap length f) in
        let w : getD bs at 0 - 128 + 128 * (v / 128) ≡ v = omega (arith, d .1) in
        (group-more bs done k at (d .0) b ∙ above-ok (getD bs at 0 - 128) (v / 128) _ _ (r .0)
@@ -274,3 +277,58 @@ unfolding numberAt form
 number-only bs at v next small e =
   let r = groups-only numberBytes bs 0 at v next small (fault-inv at v next (groupsAt bs 0 numberBytes at) e) in
   record { bytes = r .bytes; below = r .below; after = r .after; within = r .within }
+
+-- equal numbers, as after a widening, have forms of one length
+pub form-length : (v w : ℕ) → v ≡ w → length (form v) ≡ length (form w)
+form-length v w e = ap (λ (x : ℕ). length (form x)) e
+
+-- ---- the words of the standard
+
+groups-value : (k v : ℕ) → 0 < k → v < room k → groupValue (groups k v) ≡ v
+groups-value zero v p h = absurd (omega arith)
+groups-value (suc k) v p h =
+  elim (cases-lt v 128) [
+    inl l ↦ ap groupValue (groups-last (suc k) v p l) ∙ omega arith
+  | inr g ↦
+      (let m = groups-step k v h g in
+       let r = groups-value k (v / 128) (m .0) (m .1) in
+       ap groupValue (m .2) ∙ omega arith) ]
+
+-- a form with a byte before it that says so
+continued-more : (b : ℕ) (bs : List ℕ) → 128 ≤ b → b < 256 → Continued bs → Continued (b ∷ bs)
+continued-more b [] l h c = absurd c
+continued-more b (x ∷ xs) l h c = (l, h, c)
+
+groups-continued : (k v : ℕ) → 0 < k → v < room k → Continued (groups k v)
+groups-continued zero v p h = absurd (omega arith)
+groups-continued (suc k) v p h =
+  elim (cases-lt v 128) [
+    inl l ↦ subst Continued (sym (groups-last (suc k) v p l)) l
+  | inr g ↦
+      (let m = groups-step k v h g in
+       subst Continued (sym (m .2)) (continued-more (v % 128 + 128) (groups k (v / 128)) (omega arith) (omega arith) (groups-continued k (v / 128) (m .0) (m .1)))) ]
+
+groups-shortest : (k v : ℕ) (bs : List ℕ) → 0 < k → v < room k → 0 < length bs → groupValue bs ≡ v → length (groups k v) ≤ length bs
+groups-shortest zero v bs p h s e = absurd (omega arith)
+groups-shortest (suc k) v [] p h s e = absurd (omega arith)
+groups-shortest (suc k) v (b ∷ []) p h s e =
+  let l : v < 128 = omega arith in
+  omega (arith, ap length (groups-last (suc k) v p l))
+groups-shortest (suc k) v (b ∷ c ∷ cs) p h s e =
+  elim (cases-lt v 128) [
+    inl l ↦ omega (arith, ap length (groups-last (suc k) v p l))
+  | inr g ↦
+      (let m = groups-step k v h g in
+       let q : groupValue (c ∷ cs) ≡ v / 128 = omega arith in
+       let r = groups-shortest k (v / 128) (c ∷ cs) (m .0) (m .1) (omega arith) q in
+       omega (arith, ap length (m .2))) ]
+
+pub number-laws : NumberLaws
+unfolding form
+number-laws = record {
+  value = λ v h. groups-value numberBytes v (omega arith) h;
+  continued = λ v h. groups-continued numberBytes v (omega arith) h;
+  shortest = λ v bs h s e. groups-shortest numberBytes v bs (omega arith) h s e;
+  short = form-short;
+  back = λ bs at v post h e. number-back bs at v post h e .0;
+  only = λ bs at v next small e. let r = number-only bs at v next small e in (r .below, r .bytes) }

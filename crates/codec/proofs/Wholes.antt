@@ -63,8 +63,11 @@ packet-head-is n bs h rest small e =
   let b = packet-begins n bs h rest e in
   (b .0, packet-head-only n bs packetTickets h (b .0) small (b .1), b .2)
 
-packet-same : (b r c b′ r′ c′ : ℕ) → hd.Packet b r c ≡ hd.Packet b′ r′ c′ → (b ≡ b′) × (r ≡ r′) × (c ≡ c′)
+pub packet-same : (b r c b′ r′ c′ : ℕ) → hd.Packet b r c ≡ hd.Packet b′ r′ c′ → (b ≡ b′) × (r ≡ r′) × (c ≡ c′)
 packet-same b r c b′ r′ c′ e = (cc, cc, cc)
+
+pub packet-moved : (n : ℕ) (bs : List ℕ) (b r b′ r′ : ℕ) (ts : List Ticket) → b ≡ b′ → r ≡ r′ → IsPacket n bs b′ r′ ts → IsPacket n bs b r ts
+packet-moved n bs b r b′ r′ ts e f p = rw (e, f) p
 
 -- all of it is right
 pub packet-right : (n : ℕ) (bs : List ℕ) (bed round count : ℕ) (rest : Reading) (ts : List Ticket) → Bytes bs → packetReading n bs ≡ head (hd.Packet bed round count) rest → ticketsOf rest ≡ Ok ts
@@ -75,7 +78,7 @@ packet-right n bs bed round count rest ts small e t =
   let s = packet-same bed round count (i .1 .bed) (i .1 .round) (i .1 .count) (i .1 .is) in
   let c : length ts ≡ count = l .0 ∙ sym (s .2) in
   (packet-rest n bs (hd.Packet bed round count) rest e ∙ ap (mapOk (λ us. (hd.Packet bed round count, us))) t ∙ ap (λ (k : ℕ). Ok (hd.Packet bed round k, ts)) (sym c),
-   subst (λ (x : ℕ). IsPacket n bs x round ts) (sym (s .0)) (subst (λ (x : ℕ). IsPacket n bs (i .1 .bed) x ts) (sym (s .1)) (l .1)))
+   packet-moved n bs bed round (i .1 .bed) (i .1 .round) ts (s .0) (s .1) (l .1))
 
 no-ticket : (r : Result (Head × ℕ) WholeFault) (rest : Head → ℕ → Reading) (at : ℕ) (bytes : List ℕ) (k : Ticket) (x : Reading) → headFirst r rest ≡ ticket at bytes k x → ⊥
 no-ticket (Ok p) rest at bytes k x e = let z : _≡_ {A = ℕ} 0 1 = cc in omega arith

@@ -11,3 +11,4 @@ pub mod Batch
 pub mod Packet
 pub mod Edits
 pub mod Laws
+pub mod Value

@@ -49,3 +49,16 @@ numberAt bs at = faultAt at (groupsAt bs 0 numberBytes at)
 -- bytes are below 256
 abbrev pub Bytes : List ℕ → Type 0
 Bytes bs = (k : ℕ) → getD bs k 0 < 256
+
+-- ---- the same in the words of the standard
+
+-- the value of groups of seven bits, the lowest first, whatever their top bits
+abbrev pub groupValue : List ℕ → ℕ
+groupValue [] = 0
+groupValue (b ∷ bs) = b % 128 + 128 * groupValue bs
+
+-- the top bit is set in every byte but the last
+abbrev pub Continued : List ℕ → Type 0
+Continued [] = ⊥
+Continued (b ∷ []) = b < 128
+Continued (b ∷ c ∷ bs) = (128 ≤ b) × (b < 256) × Continued (c ∷ bs)

@@ -11,4 +11,5 @@ pub mod report;
 pub mod ticket;
 pub mod ticket_list;
 pub mod tickets;
+pub mod value;
 pub mod whole;

@@ -10,13 +10,10 @@ use Rattle.codec.specs.TicketList.{listBytes}
 use Rattle.codec.specs.Reading.{mark}
 use Rattle.codec.specs.Packet.{SoundPacket, packetBytes}
 use Rattle.codec.specs.Write.{putAt}
-use Rattle.codec.proofs.Numbers.{form-one}
+use Rattle.codec.proofs.Numbers.{form-one, form-length}
 use Rattle.codec.proofs.ListWrites.{sound-ranged, packet-length}
 use Rattle.codec.proofs.Writes.{put-next, wrote-front}
 use Rattle.codec.proofs.packet.write_packet.Needs as need
-
-same : (v w : ℕ) → v ≡ w → length (form v) ≡ length (form w)
-same v w e = ap (λ (x : ℕ). length (form x)) e
 
 pub list-len-requires : need.list-len-requires
 list-len-requires c κs =
@@ -27,8 +24,8 @@ pub returns-then-out-len : need.returns-then-out-len
 returns-then-out-len c =
   let s = c .is-sound .ensures .0 (c .if-not-is-sound .left) in
   let l = packet-length (c .args .bed) (c .args .round) (c .args .tickets .now) in
-  let a = same _ _ (c .from-bed-number .ensures) in
-  let b = same _ _ (c .from-round-number .ensures) in
+  let a = form-length _ _ (c .from-bed-number .ensures) in
+  let b = form-length _ _ (c .from-round-number .ensures) in
   record { wrote = (record { bed-in = omega arith; round-in = omega arith; sound = s }, omega arith, refl); short = tt }
 
 pub put-list-requires : need.put-list-requires
@@ -45,8 +42,8 @@ returns c =
   let fb = form (c .from-bed-number .result) in
   let fr = form (c .from-round-number .result) in
   let l = packet-length (c .args .bed) (c .args .round) ts in
-  let a = same _ _ (c .from-bed-number .ensures) in
-  let b = same _ _ (c .from-round-number .ensures) in
+  let a = form-length _ _ (c .from-bed-number .ensures) in
+  let b = form-length _ _ (c .from-round-number .ensures) in
   let b1 = ap length (form-one (c .args .bed) (omega (arith, c .args .beds .most))) in
   let r1 = ap length (form-one (c .args .round) (omega arith)) in
   let l2 = length-append mark fb in

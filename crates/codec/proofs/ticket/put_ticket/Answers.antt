@@ -7,13 +7,10 @@ use Rattle.std.proofs.shelf.Lists.{length-append}
 use Rattle.codec.specs.Number.{form}
 use Rattle.codec.specs.Ticket.{ticketBytes}
 use Rattle.codec.specs.Write.{putAt}
+use Rattle.codec.proofs.Numbers.{form-length}
 use Rattle.codec.proofs.TicketForms.{ticket-length}
 use Rattle.codec.proofs.Writes.{put-next}
 use Rattle.codec.proofs.ticket.put_ticket.Needs as need
-
--- the form of a number that was widened
-same : (v w : ℕ) → v ≡ w → length (form v) ≡ length (form w)
-same v w e = ap (λ (x : ℕ). length (form x)) e
 
 pub put-number-at-requires : need.put-number-at-requires
 put-number-at-requires c κs = let l = ticket-length (c .args .ticket .now) in record { below = omega arith; room = omega arith }
@@ -21,22 +18,22 @@ put-number-at-requires c κs = let l = ticket-length (c .args .ticket .now) in r
 pub put-number-at-requires-2 : need.put-number-at-requires-2
 put-number-at-requires-2 c κs =
   let l = ticket-length (c .args .ticket .now) in
-  let a = same _ _ (c .from .ensures) in
+  let a = form-length _ _ (c .from .ensures) in
   record { below = omega arith; room = omega arith }
 
 pub put-number-at-requires-3 : need.put-number-at-requires-3
 put-number-at-requires-3 c κs =
   let l = ticket-length (c .args .ticket .now) in
-  let a = same _ _ (c .from .ensures) in
-  let b = same _ _ (c .from-2 .ensures) in
+  let a = form-length _ _ (c .from .ensures) in
+  let b = form-length _ _ (c .from-2 .ensures) in
   record { below = omega arith; room = omega arith }
 
 pub put-number-requires : need.put-number-requires
 put-number-requires c κs =
   let l = ticket-length (c .args .ticket .now) in
-  let a = same _ _ (c .from .ensures) in
-  let b = same _ _ (c .from-2 .ensures) in
-  let d = same _ _ (c .from-3 .ensures) in
+  let a = form-length _ _ (c .from .ensures) in
+  let b = form-length _ _ (c .from-2 .ensures) in
+  let d = form-length _ _ (c .from-3 .ensures) in
   record { below = omega arith; room = omega arith }
 
 pub returns : need.returns
@@ -50,9 +47,9 @@ returns c =
   let fn = form (c .from-2 .result) in
   let fs = form (c .from-3 .result) in
   let l = ticket-length t in
-  let a = same _ _ (c .from .ensures) in
-  let b = same _ _ (c .from-2 .ensures) in
-  let d = same _ _ (c .from-3 .ensures) in
+  let a = form-length _ _ (c .from .ensures) in
+  let b = form-length _ _ (c .from-2 .ensures) in
+  let d = form-length _ _ (c .from-3 .ensures) in
   let l2 = length-append fp fo in
   let l3 = length-append (fp ++ fo) fn in
   let l4 = length-append (fp ++ fo ++ fn) fs in
