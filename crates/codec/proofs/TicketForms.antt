@@ -59,17 +59,20 @@ pub ticket-back : (n : ℕ) (bs : List ℕ) (at : ℕ) (t : Ticket) (post : List
 unfolding ticketAt ticketBytes
 ticket-back n bs at t post h r e =
   let e′ = e ∙ four (form (t .paths)) (form (t .origin)) (form (t .number)) (form (t .sheet)) post in
-  let a = ranged-back tf.Number tf.Range bs at (t .paths) 0 (maxPaths + 1) _ (omega arith) (omega (arith, r .paths)) (omega (arith, r .paths)) e′ in
-  let b = ranged-back tf.Number tf.Range bs _ (t .origin) 0 n _ (omega arith) (r .origin) (omega (arith, r .origin)) (a .1) in
-  let c = ranged-back tf.Number tf.Range bs _ (t .number) minNumber (maxNumber + 1) _ (r .least) (omega (arith, r .number)) (omega (arith, r .number)) (b .1) in
-  let d = ranged-back tf.Number tf.Range bs _ (t .sheet) 0 (maxSheet + 1) _ (omega arith) (omega (arith, r .sheet)) (omega (arith, r .sheet)) (c .1) in
+  let at1 : ℕ = at + length (form (t .paths)) in
+  let at2 : ℕ = at1 + length (form (t .origin)) in
+  let at3 : ℕ = at2 + length (form (t .number)) in
+  let at4 : ℕ = at3 + length (form (t .sheet)) in
+  let a = ranged-back tf.Number tf.Range bs at (t .paths) 0 (maxPaths + 1) (form (t .origin) ++ (form (t .number) ++ (form (t .sheet) ++ post))) (omega arith) (omega (arith, r .paths)) (omega (arith, r .paths)) e′ in
+  let b = ranged-back tf.Number tf.Range bs at1 (t .origin) 0 n (form (t .number) ++ (form (t .sheet) ++ post)) (omega arith) (r .origin) (omega (arith, r .origin)) (a .1) in
+  let c = ranged-back tf.Number tf.Range bs at2 (t .number) minNumber (maxNumber + 1) (form (t .sheet) ++ post) (r .least) (omega (arith, r .number)) (omega (arith, r .number)) (b .1) in
+  let d = ranged-back tf.Number tf.Range bs at3 (t .sheet) 0 (maxSheet + 1) post (omega arith) (omega (arith, r .sheet)) (omega (arith, r .sheet)) (c .1) in
   let l = four-length (form (t .paths)) (form (t .origin)) (form (t .number)) (form (t .sheet)) in
-  let z : at + length (form (t .paths)) + length (form (t .origin)) + length (form (t .number)) + length (form (t .sheet))
-      ≡ at + length (form (t .paths) ++ form (t .origin) ++ form (t .number) ++ form (t .sheet)) = omega arith in
-  (then-ok (fieldAt bs at 0 (maxPaths + 1)) (t .paths) _ _ (a .0)
-     ∙ then-ok (fieldAt bs _ 0 n) (t .origin) _ _ (b .0)
-     ∙ then-ok (fieldAt bs _ minNumber (maxNumber + 1)) (t .number) _ _ (c .0)
-     ∙ then-ok (fieldAt bs _ 0 (maxSheet + 1)) (t .sheet) _ _ (d .0)
+  let z : at4 ≡ at + length (form (t .paths) ++ form (t .origin) ++ form (t .number) ++ form (t .sheet)) = omega arith in
+  (then-ok (fieldAt bs at 0 (maxPaths + 1)) (t .paths) at1 _ (a .0)
+     ∙ then-ok (fieldAt bs at1 0 n) (t .origin) at2 _ (b .0)
+     ∙ then-ok (fieldAt bs at2 minNumber (maxNumber + 1)) (t .number) at3 _ (c .0)
+     ∙ then-ok (fieldAt bs at3 0 (maxSheet + 1)) (t .sheet) at4 _ (d .0)
      ∙ ap (λ (k : ℕ). Ok (t, k)) z,
    ap (λ (k : ℕ). drop k bs) (sym z) ∙ d .1)
 

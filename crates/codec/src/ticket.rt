@@ -52,8 +52,8 @@ pub enum TicketFault {
 pub impl From<NumberFault> for TicketFault as TicketFromNumber {
     ghost converts = { λ x y. y ≡ TicketNumber x };
 
-    fn from(fault: NumberFault) -> TicketFault {
-        TicketFault::Number(fault)
+    fn from(number: NumberFault) -> TicketFault {
+        TicketFault::Number(number)
     }
 }
 

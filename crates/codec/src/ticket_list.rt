@@ -45,16 +45,16 @@ pub enum ListFault {
 pub impl From<NumberFault> for ListFault as ListFromNumber {
     ghost converts = { λ x y. y ≡ ListNumber x };
 
-    fn from(fault: NumberFault) -> ListFault {
-        ListFault::Number(fault)
+    fn from(number: NumberFault) -> ListFault {
+        ListFault::Number(number)
     }
 }
 
 pub impl From<TicketFault> for ListFault as ListFromTicket {
     ghost converts = { λ x y. y ≡ ListTicket x };
 
-    fn from(fault: TicketFault) -> ListFault {
-        ListFault::Ticket(fault)
+    fn from(ticket: TicketFault) -> ListFault {
+        ListFault::Ticket(ticket)
     }
 }
 

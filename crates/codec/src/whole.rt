@@ -31,16 +31,16 @@ pub enum WholeFault {
 pub impl From<NumberFault> for WholeFault as WholeFromNumber {
     ghost converts = { λ x y. y ≡ WholeNumber x };
 
-    fn from(fault: NumberFault) -> WholeFault {
-        WholeFault::Number(fault)
+    fn from(number: NumberFault) -> WholeFault {
+        WholeFault::Number(number)
     }
 }
 
 pub impl From<ListFault> for WholeFault as WholeFromList {
     ghost converts = { λ x y. y ≡ WholeList x };
 
-    fn from(fault: ListFault) -> WholeFault {
-        WholeFault::List(fault)
+    fn from(list: ListFault) -> WholeFault {
+        WholeFault::List(list)
     }
 }
 

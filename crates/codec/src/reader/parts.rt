@@ -143,7 +143,7 @@ impl<'a> Reader<'a> {
             }
             return Ok(Part::End);
         }
-        let (ticket, next) = read_next(self.bytes, offset, self.beds, self.seen.as_slice())?;
+        let (ticket, next) = read_next(self.bytes, offset, self.beds, self.tickets())?;
         let whole = self.bytes;
         let bytes = &whole[offset..next];
         self.seen.push(ticket);
