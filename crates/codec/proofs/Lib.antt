@@ -10,3 +10,4 @@ pub mod Readings
 pub mod Wholes
 pub mod ListWrites
 pub mod FormLaws
+pub mod Values

@@ -1,5 +1,7 @@
 // What a slot of a memory and a proposal at a service hold.
+ghost use mathlib.Core.Path.{_≡_};
 ghost use Prim.Native.Nat.{_≤_};
+ghost use lib.ListN.{length};
 ghost use Rattle.codec.specs.Limits.{maxBatchBytes};
 mod methods;
 use super::limits::MAX_BATCH_BYTES;
@@ -9,6 +11,7 @@ use super::limits::MAX_BATCH_BYTES;
 pub struct Value {
     bytes: [u8; MAX_BATCH_BYTES],
     len: usize,
+    ghost room: { length bytes ≡ maxBatchBytes },
     ghost some: { 1 ≤ len },
     ghost most: { len ≤ maxBatchBytes },
 }

@@ -15,7 +15,7 @@ returns-in-Break-len c =
 pub ghost-result : need.ghost-result
 ghost-result c =
   let w = c .in-Continue-len .ensures tt in
-  (omega (arith, w .wrote .1, batch-some (c .args .tickets .now)), (w .short, tt))
+  (omega arith, (omega (arith, w .wrote .1, batch-some (c .args .tickets .now)), (w .short, tt)))
 
 pub returns : need.returns
 returns c =

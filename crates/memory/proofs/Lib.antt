@@ -1,0 +1,5 @@
+pub mod Tables
+pub mod ChipWrites
+pub mod ChipSlots
+pub mod ChipKeeps
+pub mod KeepAnswers
