@@ -3,6 +3,8 @@ use mathlib.Core.Path.{_≡_}
 use mathlib.Core.List.{List}
 use Prim.Native.Nat.{ℕ}
 use lib.ListN.{take}
+use Rattle.std.specs.declared.option.Option.{Option}
+use Rattle.std.specs.declared.option.Option.the-variants.{Some, None}
 use Rattle.std.specs.declared.result.Result.{Result}
 use Rattle.std.specs.declared.result.Result.the-variants.{Ok, Err}
 use Rattle.codec.specs.Limits.{batchTickets}
@@ -15,6 +17,11 @@ use Rattle.codec.specs.declared.value.Value.{Value}
 
 abbrev pub valueBytes : Value → List ℕ
 valueBytes v = take (v .len) (v .bytes)
+
+-- what a place for a value shows
+abbrev pub shown : Option Value → Option (List ℕ)
+shown None = None
+shown (Some v) = Some (valueBytes v)
 
 -- a sound batch always finds room; any other list has no form
 abbrev pub BatchValue : ℕ → List Ticket → Result Value WriteRefusal → Type 0

@@ -10,15 +10,11 @@ use Rattle.std.specs.declared.option.Option.{Option}
 use Rattle.std.specs.declared.option.Option.the-variants.{Some, None}
 use Rattle.std.proofs.shelf.Tests.{and-parts, ltb-true}
 use Rattle.codec.specs.Limits.{maxBeds, maxBatchBytes}
-use Rattle.codec.specs.Value.{valueBytes}
+use Rattle.codec.specs.Value.{valueBytes, shown}
 use Rattle.codec.specs.declared.value.Value.{Value}
 use Rattle.codec.proofs.Values.{value-some, value-most}
 use Rattle.memory.specs.Limits.{slotCount, slotIndex, placed}
 use Rattle.memory.specs.Meaning.{Bounded, Within}
-
-abbrev pub shown : Option Value → Option (List ℕ)
-shown None = None
-shown (Some v) = Some (valueBytes v)
 
 abbrev pub tableHolds : List (Option Value) → ℕ → ℕ → Option (List ℕ)
 tableHolds slots bed slot = cond (placed bed slot) (shown (getD slots (slotIndex bed slot) None)) None

@@ -1,0 +1,4 @@
+pub mod Limits
+pub mod Refusal
+pub mod Meaning
+pub mod Ballots
