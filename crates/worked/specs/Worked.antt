@@ -3,6 +3,9 @@ use mathlib.Core.Path.{_≡_}
 use mathlib.Core.Bool.{true}
 use mathlib.Core.List.{List, [], _∷_}
 use Prim.Native.Nat.{ℕ}
+use lib.ListN.{replicate}
+use Rattle.std.specs.declared.option.Option.{Option}
+use Rattle.std.specs.declared.option.Option.the-variants.{Some, None}
 use Rattle.std.specs.declared.result.Result.{Result}
 use Rattle.std.specs.declared.result.Result.the-variants.{Ok, Err}
 use Rattle.codec.specs.Number.{form}
@@ -13,6 +16,7 @@ use Rattle.codec.specs.declared.report.Layer.{Layer}
 use Rattle.codec.specs.declared.report.Layer.the-variants as la
 use Rattle.codec.specs.declared.ticket.Ticket.{Ticket}
 use Rattle.codec.specs.declared.whole.WholeFault.{WholeFault}
+use Rattle.memory.specs.Chip.{chipCells, start, chipHolds, tornCells}
 
 abbrev ticket : ℕ → ℕ → ℕ → ℕ → Ticket
 ticket paths origin number sheet = record { paths = paths; origin = origin; number = number; sheet = sheet }
@@ -51,8 +55,18 @@ pub record Batches : Type 0 where
 pub record Order : Type 0 where
   pub lower-origin : standsBefore (ticket 5 0 9 0) (ticket 5 1 1 0) ≡ true
 
--- all of them; those of the memories come here too
+-- a chip whose cells are all 00, after a torn keep of the byte 00 for bed 0 in slot 0: two cells were finished, and the junk
+-- is in the mark cell
+abbrev torn : ℕ → Option (List ℕ)
+torn junk = chipHolds (tornCells (replicate chipCells 0x00) (start 0 0) (0x00 ∷ []) 2 junk) 0 0
+
+pub record Chip : Type 0 where
+  pub broken-off : torn 0x00 ≡ None
+  pub as-good-as-done : torn 0xA5 ≡ Some (0x00 ∷ [])
+
+-- all of them
 pub record Worked : Type 0 where
   pub numbers : Numbers
   pub batches : Batches
   pub order : Order
+  pub chip : Chip

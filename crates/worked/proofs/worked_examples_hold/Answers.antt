@@ -4,7 +4,8 @@ use Rattle.codec.specs.Ticket.{sameIdentity, standsBefore, rangedAt, ticketAt, 
 use Rattle.codec.specs.TicketList.{listBytes, nextAt}
 use Rattle.codec.specs.Reading.{batchHead, batchReading}
 use Rattle.codec.specs.Batch.{batchOf}
-use Rattle.worked.specs.Worked.{Numbers, Batches, Order}
+use Rattle.memory.specs.Chip.{tornCells}
+use Rattle.worked.specs.Worked.{Numbers, Batches, Order, Chip}
 use Rattle.worked.proofs.worked_examples_hold.Needs as need
 
 numbers : Numbers
@@ -28,5 +29,9 @@ order : Order
 unfolding standsBefore
 order = record { lower-origin = refl }
 
+chip : Chip
+unfolding tornCells
+chip = record { broken-off = refl; as-good-as-done = refl }
+
 pub returns : need.returns
-returns c = record { numbers = numbers; batches = batches; order = order }
+returns c = record { numbers = numbers; batches = batches; order = order; chip = chip }
