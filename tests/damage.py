@@ -218,8 +218,8 @@ UNREADABLE = tuple(
     for line in (
         "", " ", "b", "p", "b ", "p ", "2 00", "b 00", "00", "b2 00", "b 200", "b2", "hello",
         "b 0 00", "b 9 00", "p 0", "p 9", "b 10 00", "b 02 00", "b -1 00", "b +2 00", "b x 00",
-        "x 2 00", "B 2 00", "P 2 00", "bp 2 00", "b b 2 00", " b 2 00", "b  2 00", "b 2  00",
-        "b 2 00 ", "b 2  ", "b\t2 00", "b 2\t00", "b 2 00\t00", "b 2 00\r", "b 2 00\0", "b 2,00",
+        "x 2 00", "B 2 00", "P 2 00", "bp 2 00", "b b 2 00", " b 2 00", "b  2 00", "b  2  ",
+        "b\t2 00", "b 2\t00", "b 2 00\t00", "b 2 00\t", "b 2 00\r", "b 2 00\0", "b 2,00",
         "b 2 0", "b 2 000", "b 2 0 0", "b 2 00 0", "p 2 4A 4F 42 4 7", "b 2 0g", "b 2 G0",
         "b 2 0x00", "b 2 00,00", "b 2 +0", "b 2 -1", "b 2 0\xc3\xa9", "b 2 \xc3\xa9",
         "b 2 \xff\xfe", "b \xef\xbc\x92 00", "\xff 2 00", "b 2 00 ; 00", "b 2 00 # none",
@@ -250,14 +250,15 @@ def spelled(rng: random.Random, letter: str, n: int, data: bytes) -> bytes:
     recases = rng.choice(((str.upper,), (str.lower,), (str.upper, str.lower)))
     gaps = rng.choice(((" ",), ("",), ("", " ", "   ")))
     start = f"{letter} {n}"
+    margins = rng.choice((("",), ("",), ("", " ", "   ")))
     if not data:
-        return rng.choice((start, start + " ")).encode()
+        return (start + rng.choice(("", " " + rng.choice(margins)))).encode()
     pairs = ""
     for i, digit in enumerate(data.hex()):
         if i > 0 and i % 2 == 0:
             pairs += rng.choice(gaps)
         pairs += rng.choice(recases)(digit)
-    return f"{start} {pairs}".encode()
+    return f"{start} {rng.choice(margins)}{pairs}{rng.choice(margins)}".encode()
 
 
 def misspelled(rng: random.Random, line: bytes) -> bytes:

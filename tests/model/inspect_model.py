@@ -7,7 +7,7 @@ from collections.abc import Iterator
 from forms import BatchHead, End, Fault, PacketHead, Part, TicketPart, read_batch, read_packet
 
 LINE = re.compile(
-    rb"(?P<letter>[bp]) (?P<n>[1-8])(?: (?P<hex>[0-9A-Fa-f]{2}(?: *[0-9A-Fa-f]{2})*)?)?"
+    rb"(?P<letter>[bp]) (?P<n>[1-8])(?: (?P<hex>(?: *[0-9A-Fa-f]{2})* *))?"
 )
 
 

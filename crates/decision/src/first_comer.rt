@@ -5,6 +5,7 @@ ghost use Prim.Native.Nat.{ℕ};
 ghost use Rattle.std.specs.Options.{isSome};
 ghost use Rattle.decision.specs.Ballots.{boardOf};
 mod calls;
+pub use calls::FirstComerService;
 use super::ballots::Ballots;
 
 /// A service that decides for the first proposal of each round.

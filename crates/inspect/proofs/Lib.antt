@@ -1,0 +1,5 @@
+mod AnswerSteps
+mod Grammars
+mod HexSteps
+mod LineSteps
+mod SplitSteps

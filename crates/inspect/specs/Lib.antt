@@ -1,0 +1,7 @@
+pub mod Fault
+pub mod Split
+pub mod Hex
+pub mod Line
+pub mod Grammar
+pub mod Words
+pub mod Answer
