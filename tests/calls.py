@@ -13,6 +13,7 @@ LONGEST = 65
 SLOT_CELLS = 67
 MARK_CELL = 66
 MARK = 165
+OTHER_MARKS = (0, 1, 90, 164, 255)
 TORN_BEFORE_ALL = 3
 
 MEMORIES = ["table", "table", "chip", "chip", "chip"]
@@ -46,6 +47,10 @@ class Draw(Random):
         wrapping = (value + 256, value + 65_536, value + 2**27)
         return self.choice((limit, limit, limit + value, 2**32 - 1, *wrapping))
 
+    def astray(self, value: int, limit: int) -> int:
+        """The value; seldom a number that is not below the limit."""
+        return self.beyond(value, limit) if self.chance(0.06) else value
+
     def data(self) -> bytes:
         """Bytes of a length that is allowed."""
         return self.randbytes(self.choice((1, 1, 2, 64, 65, self.randint(3, 63))))
@@ -63,7 +68,7 @@ class Draw(Random):
         return self.choice((bytes(changed), *longer, *shorter))
 
     def junk(self) -> int:
-        return self.choice((0, 1, MARK, MARK, 255, self.randrange(256)))
+        return self.choice((0, 1, MARK, MARK, MARK, 255, self.randrange(256)))
 
 
 class MemoryCalls:
@@ -111,11 +116,7 @@ class MemoryCalls:
     def bed_and_slot(self, place: int) -> tuple[int, int]:
         """Those of the place; seldom one that does not exist."""
         bed, slot = divmod(place, SLOTS)
-        if self.draw.chance(0.05):
-            bed = self.draw.beyond(bed, BEDS)
-        if self.draw.chance(0.05):
-            slot = self.draw.beyond(slot, SLOTS)
-        return bed, slot
+        return self.draw.astray(bed, BEDS), self.draw.astray(slot, SLOTS)
 
     def data_for(self, bed: int, slot: int) -> bytes:
         """Mostly the bytes that were first sent to the slot."""
@@ -151,86 +152,82 @@ class MemoryCalls:
             at = self.end_of_tear(len(data))
         yield f"torn {bed} {slot} {at} {self.draw.junk()} {to_hex(data)}"
         self.torn_since_all += 1
+        if self.is_chip and self.draw.chance(0.2):
+            yield from self.show(self.draw.choice((place, place, (place + 1) % (BEDS * SLOTS))))
         if self.torn_since_all == TORN_BEFORE_ALL or self.draw.chance(0.2):
             yield from self.all()
 
     def end_of_tear(self, length: int) -> int:
         """An `at` at the first or last cells of a keep, or far past them."""
-        close = *range(length - 1, length + 4), length, length + 1
+        close = *range(length - 1, length + 4), *range(length, length + 3)
         huge = 256, length + 256, 65_536, 2**31, 2**32 - 2, 2**32 - 1
         return self.draw.choice((0, 1, *close, self.draw.choice(huge)))
 
-    def damage(self) -> Iterator[str]:
-        """Set cells of a slot; a mark that is set shows what an unfinished keep has left there."""
-        place = self.draw.choice(self.places)
+    def show(self, place: int) -> Iterator[str]:
+        """Set the mark of a slot for a while: a read then tells what an unfinished keep has left in its cells."""
         start = SLOT_CELLS * place
         bed, slot = divmod(place, SLOTS)
-        length = f"cell {start} {self.draw.choice((0, 1, 65, 66, 255, self.draw.randrange(256)))}"
-        match self.draw.choice(("show", "show all", "length", "data", "mark", "empty", "empty")):
-            case "show":
-                yield f"cell {start + MARK_CELL} {MARK}"
-            case "show all":
-                yield length
-                yield f"cell {start + MARK_CELL} {MARK}"
-            case "length":
-                yield length
-            case "data":
-                yield f"cell {start + 1 + self.draw.edge(LONGEST)} {self.draw.junk()}"
-            case "mark":
-                yield f"cell {start + MARK_CELL} {self.draw.junk()}"
-            case "empty":
-                self.first_sent.pop((bed, slot), None)
-                yield f"cell {start + MARK_CELL} {self.draw.choice((0, 1, 164, 90, 255))}"
+        yield f"cell {start + MARK_CELL} {MARK}"
+        yield f"read {bed} {slot}"
+        yield f"cell {start} {LONGEST}"
+        yield f"read {bed} {slot}"
+        yield f"cell {start + MARK_CELL} {self.draw.choice(OTHER_MARKS)}"
+
+    def damage(self) -> Iterator[str]:
+        """Set a cell or two of a slot."""
+        place = self.draw.choice(self.places)
+        bed, slot = divmod(place, SLOTS)
+        for _ in range(self.draw.randint(1, 2)):
+            length = 0, self.draw.choice((0, 1, 65, 66, 255, self.draw.randrange(256)))
+            data = 1 + self.draw.edge(LONGEST), self.draw.junk()
+            marks = (MARK_CELL, MARK), (MARK_CELL, self.draw.choice(OTHER_MARKS))
+            cell, value = self.draw.choice((length, data, *marks))
+            yield f"cell {SLOT_CELLS * place + cell} {value}"
         if self.draw.chance(0.7):
             yield f"read {bed} {slot}"
 
 
 class ServiceCalls:
-    """Calls of a decision service, on few rounds at a time."""
+    """Calls of a decision service, in two rounds at a time."""
 
     def __init__(self, draw: Draw) -> None:
         self.draw = draw
         self.services = draw.deal(SERVICES)
         self.n = 1
-        self.rounds = self.two_rounds()
+        self.move()
 
     def lines(self) -> Iterator[str]:
         """Calls of a service, then of the same one in other rounds or of a new one in the same."""
         while True:
             yield from self.calls()
             if self.draw.chance(0.3):
-                self.rounds = self.two_rounds()
+                self.move()
             else:
                 kind, self.n = next(self.services)
                 yield f"{kind} {self.n}"
 
-    def two_rounds(self) -> tuple[int, int]:
-        return self.draw.edge(ROUNDS), self.draw.edge(ROUNDS)
+    def move(self) -> None:
+        self.rounds = self.draw.edge(ROUNDS), self.draw.edge(ROUNDS)
 
     def calls(self) -> Iterator[str]:
-        """Enough calls for most beds to come."""
-        for _ in range(6 + 5 * self.n):
-            call = self.draw.choices((self.put, self.poll, self.refused), (20, 20, 1))[0]
-            yield call()
+        """Calls with many polls or few; most beds come in each round before one comes again."""
+        comers = self.draw.deal([(bed, round_) for bed in range(self.n) for round_ in self.rounds])
+        weights = 20, self.draw.choice((5, 25)), 1
+        for name in self.draw.choices(("put", "poll", "refused"), weights, k=6 + 6 * self.n):
+            match name:
+                case "put":
+                    yield self.put(*next(comers))
+                case "poll":
+                    yield f"poll {self.draw.astray(self.draw.choice(self.rounds), ROUNDS)}"
+                case "refused":
+                    kind, n = self.draw.choice(SERVICES)
+                    yield f"{kind} {self.draw.choice((0, self.draw.beyond(n, 9)))}"
 
-    def refused(self) -> str:
-        """A service that is not made."""
-        kind, n = self.draw.choice(SERVICES)
-        return f"{kind} {self.draw.choice((0, self.draw.beyond(n, 9)))}"
-
-    def round(self) -> int:
-        round_ = self.draw.choice(self.rounds)
-        return self.draw.beyond(round_, ROUNDS) if self.draw.chance(0.05) else round_
-
-    def put(self) -> str:
-        bed = self.draw.randrange(self.n)
-        if self.draw.chance(0.08):
-            bed = self.draw.beyond(bed, self.n)
+    def put(self, bed: int, round_: int) -> str:
+        if self.draw.chance(0.3):
+            bed = self.draw.randrange(self.n)
         data = self.draw.long_data() if self.draw.chance(0.05) else self.draw.data()
-        return f"put {bed} {self.round()} {to_hex(data)}"
-
-    def poll(self) -> str:
-        return f"poll {self.round()}"
+        return f"put {self.draw.astray(bed, self.n)} {self.draw.astray(round_, ROUNDS)} {to_hex(data)}"
 
 
 def random_lines(seed: int) -> Iterator[str]:

@@ -26,8 +26,7 @@ if ! diff "$dir/expected" "$dir/said" >"$dir/diff"; then
     # The answers that are whole before the first difference: those of an `all` end with its last line.
     equal=$(sed -n -E -e '1s/^([0-9]+)a.*/\1/p; t' -e '1s/^([0-9]+).*/\1 - 1/p' "$dir/diff")
     answers=$(head -n $((equal)) "$dir/expected" | grep -c '^[a-z]' || true)
-    printf 'input line '
-    grep -n -v -E '^(cell|torn) ' "$dir/lines" | sed -n -e "$((answers + 1))s/:/ is: /p"
+    grep -n -v -E '^(cell|torn) ' "$dir/lines" | sed -n -E "$((answers + 1))s/^([0-9]+):/input line \\1 is: /p"
     exit 1
 fi
 echo "$count calls agree (seed $seed)"

@@ -15,7 +15,8 @@ order-laws = record {
   same-through = λ s t u p q. grind (arith, tells);
   not-before-itself = λ t. grind (arith, tells);
   before-through = λ s t u p q. grind (arith, tells);
-  one-before = λ s t p. grind (arith, tells) }
+  one-before = λ s t p. grind (arith, tells);
+}
 
 pub same-no : (s t : Ticket) → sameIdentity s t ≡ false → sameIdentity t s ≡ false
 same-no s t e = order-laws .same-back t s ∙ e

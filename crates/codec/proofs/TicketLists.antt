@@ -65,8 +65,8 @@ pub follows-last : (t : Ticket) (xs : List Ticket) → 0 < length xs → standsB
 follows-last t [] h = absurd (omega arith)
 follows-last t (x ∷ []) h = refl
 follows-last t (x ∷ y ∷ ys) h =
-  let e : length (x ∷ y ∷ ys) - 1 ≡ suc (length (y ∷ ys) - 1) = omega arith in
-  ap (λ (k : ℕ). standsBefore (getD (x ∷ y ∷ ys) k none) t) e ∙ follows-last t (y ∷ ys) (omega arith)
+    let e : length (x ∷ y ∷ ys) - 1 ≡ suc (length (y ∷ ys) - 1) = omega arith in
+    ap (λ (k : ℕ). standsBefore (getD (x ∷ y ∷ ys) k none) t) e ∙ follows-last t (y ∷ ys) (omega arith)
 
 -- ---- soundness, one ticket at a time
 
@@ -78,12 +78,12 @@ After n seen (t ∷ ts) = InRange n t × (follows t seen ≡ true) × (known t s
 pub after-push : (n : ℕ) (seen ts : List Ticket) (t : Ticket) → After n seen ts → InRange n t → follows t (seen ++ ts) ≡ true → known t (seen ++ ts) ≡ false → After n seen (ts ++ t ∷ [])
 after-push n seen [] t a r f k = (r, rw append-nil at f, rw append-nil at k, tt)
 after-push n seen (u ∷ us) t a r f k =
-  let e = append-assoc seen (u ∷ []) us in
-  (a .0, a .1, a .2, after-push n (seen ++ u ∷ []) us t (a .3) r (rw e f) (rw e k))
+    let e = append-assoc seen (u ∷ []) us in
+    (a .0, a .1, a .2, after-push n (seen ++ u ∷ []) us t (a .3) r (rw e f) (rw e k))
 
 -- what the tickets after those seen say of the one at a place
 at-from : (n : ℕ) (seen ts : List Ticket) (i : ℕ) → After n seen ts → i < length ts
-  → InRange n (getD ts i none) × (follows (getD ts i none) (seen ++ take i ts) ≡ true) × (known (getD ts i none) (seen ++ take i ts) ≡ false)
+    → InRange n (getD ts i none) × (follows (getD ts i none) (seen ++ take i ts) ≡ true) × (known (getD ts i none) (seen ++ take i ts) ≡ false)
 at-from n seen [] i a h = absurd (omega arith)
 at-from n seen (t ∷ ts) zero a h = rw (append-nil seen) (a .0, a .1, a .2)
 at-from n seen (t ∷ ts) (suc i) a h = rw append-assoc at (at-from n (seen ++ t ∷ []) ts i (a .3) (omega arith))
@@ -108,9 +108,10 @@ line-from (t ∷ ts) r a = (each-both (λ u. standsBefore t u ≡ true) (λ u. s
 pub line-parts : (ts : List Ticket) → Line ts → Rising ts × Apart ts
 line-parts [] l = (tt, tt)
 line-parts (t ∷ ts) l =
-  let r = line-parts ts (l .1) in
-  ((each-weaker (Ahead t) (λ u. standsBefore t u ≡ true) (λ u p. p .0) ts (l .0), r .0),
-   (each-weaker (Ahead t) (λ u. sameIdentity t u ≡ false) (λ u p. p .1) ts (l .0), r .1))
+    let r = line-parts ts (l .1) in (
+      (each-weaker (Ahead t) (λ u. standsBefore t u ≡ true) (λ u p. p .0) ts (l .0), r .0),
+      (each-weaker (Ahead t) (λ u. sameIdentity t u ≡ false) (λ u p. p .1) ts (l .0), r .1),
+    )
 
 pub known-each : (t : Ticket) (xs : List Ticket) → known t xs ≡ false → Each (λ x. sameIdentity x t ≡ false) xs
 known-each t [] k = tt
@@ -121,16 +122,16 @@ follows-each : (t : Ticket) (xs : List Ticket) → Line xs → follows t xs ≡ 
 follows-each t [] l f = tt
 follows-each t (x ∷ []) l f = (f, tt)
 follows-each t (x ∷ y ∷ ys) l f =
-  let r = follows-each t (y ∷ ys) (l .1) f in
-  (order-laws .before-through x y t (l .0 .0 .0) (r .0), r)
+    let r = follows-each t (y ∷ ys) (l .1) f in
+    (order-laws .before-through x y t (l .0 .0 .0) (r .0), r)
 
 -- a ticket that stands behind each passes both tests
 behind : (t : Ticket) (xs : List Ticket) → Each (λ x. Ahead x t) xs → (follows t xs ≡ true) × (known t xs ≡ false)
 behind t [] e = (refl, refl)
 behind t (x ∷ []) e = (e .0 .0, or-from (sameIdentity x t) false (e .0 .1) refl)
 behind t (x ∷ y ∷ ys) e =
-  let r = behind t (y ∷ ys) (e .1) in
-  (r .0, or-from (sameIdentity x t) (known t (y ∷ ys)) (e .0 .1) (r .1))
+    let r = behind t (y ∷ ys) (e .1) in
+    (r .0, or-from (sameIdentity x t) (known t (y ∷ ys)) (e .0 .1) (r .1))
 
 line-push : (t : Ticket) (xs : List Ticket) → Line xs → Each (λ x. Ahead x t) xs → Line (xs ++ t ∷ [])
 line-push t [] l e = (tt, tt)
@@ -143,15 +144,15 @@ line-before t (x ∷ xs) ts l = (each-parts (Ahead x) xs (t ∷ ts) (l .0) .1 .0
 line-after : (n : ℕ) (seen ts : List Ticket) → Each (InRange n) ts → Line (seen ++ ts) → After n seen ts
 line-after n seen [] e l = tt
 line-after n seen (t ∷ ts) e l =
-  let b = behind t seen (line-before t seen ts l) in
-  (e .0, b .0, b .1, line-after n (seen ++ t ∷ []) ts (e .1) (rw append-assoc l))
+    let b = behind t seen (line-before t seen ts l) in
+    (e .0, b .0, b .1, line-after n (seen ++ t ∷ []) ts (e .1) (rw append-assoc l))
 
 after-line : (n : ℕ) (seen ts : List Ticket) → Line seen → After n seen ts → Each (InRange n) ts × Line (seen ++ ts)
 after-line n seen [] l a = (tt, rw append-nil l)
 after-line n seen (t ∷ ts) l a =
-  let ahead = each-both (λ x. standsBefore x t ≡ true) (λ x. sameIdentity x t ≡ false) seen (follows-each t seen l (a .1)) (known-each t seen (a .2)) in
-  let r = after-line n (seen ++ t ∷ []) ts (line-push t seen l ahead) (a .3) in
-  ((a .0, r .0), rw append-assoc at (r .1))
+    let ahead = each-both (λ x. standsBefore x t ≡ true) (λ x. sameIdentity x t ≡ false) seen (follows-each t seen l (a .1)) (known-each t seen (a .2)) in
+    let r = after-line n (seen ++ t ∷ []) ts (line-push t seen l ahead) (a .3) in
+    ((a .0, r .0), rw append-assoc at (r .1))
 
 pub sound-after : (n : ℕ) (ts : List Ticket) → Each (InRange n) ts → Rising ts → Apart ts → After n [] ts
 sound-after n ts e r a = line-after n [] ts e (line-from ts r a)

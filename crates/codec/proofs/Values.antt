@@ -26,8 +26,9 @@ value-most v = omega (arith, value-length v, v .most)
 -- wherever a row of nothing is read, nothing is there
 nothing-there : (n i : ℕ) → getD {A = Option Value} (replicate n None) i None ≡ None
 nothing-there n i = elim (cases-lt i n) [
-    inl h ↦ getD-replicate n i None None h
-  | inr g ↦ getD-past (replicate n None) i None (omega (arith, length-replicate {A = Option Value} n None)) ]
+  | inl h ↦ getD-replicate n i None None h
+  | inr g ↦ getD-past (replicate n None) i None (omega (arith, length-replicate {A = Option Value} n None))
+]
 
 either-none : (b : Bool) (o : Option (List ℕ)) → o ≡ None → cond b o None ≡ None
 either-none true o e = e

@@ -34,7 +34,7 @@ map-same (Err f) = refl
 -- a reader that has handed out no ticket
 pub all-fresh : (s : Reader) (r : Reading) → remaining s ≡ r → seenBy s ≡ [] → allOf s ≡ ticketsOf r
 all-fresh s r e z =
-  ap (λ (l : List Ticket). mapOk (λ ts. l ++ ts) (ticketsOf (remaining s))) z ∙ map-same (ticketsOf (remaining s)) ∙ ap ticketsOf e
+    ap (λ (l : List Ticket). mapOk (λ ts. l ++ ts) (ticketsOf (remaining s))) z ∙ map-same (ticketsOf (remaining s)) ∙ ap ticketsOf e
 
 pub batch-sound : (n : ℕ) (bs : List ℕ) (r : Result Tickets WholeFault) → n ≤ maxBeds → Bytes bs → mapOk listed r ≡ batchOf n bs → ReadBatch n bs r
 batch-sound n bs (Ok l) h small e = batch-only n bs (listed l) small (sym e)
@@ -54,14 +54,14 @@ packet-no-head n bs f e = sym (then-err (packetHead n bs packetTickets) f _ (pac
 pub packet-rest : (n : ℕ) (bs : List ℕ) (h : Head) (rest : Reading) → packetReading n bs ≡ head h rest → packetOf n bs ≡ mapOk (λ ts. (h, ts)) (ticketsOf rest)
 unfolding packetOf
 packet-rest n bs h rest e =
-  let b = packet-begins n bs h rest e in
-  then-ok (packetHead n bs packetTickets) h (b .0) _ (b .1) ∙ ap (λ (x : Reading). mapOk (λ ts. (h, ts)) (ticketsOf x)) (sym (b .2))
+    let b = packet-begins n bs h rest e in
+    then-ok (packetHead n bs packetTickets) h (b .0) _ (b .1) ∙ ap (λ (x : Reading). mapOk (λ ts. (h, ts)) (ticketsOf x)) (sym (b .2))
 
 pub packet-head-is : (n : ℕ) (bs : List ℕ) (h : Head) (rest : Reading) → Bytes bs → packetReading n bs ≡ head h rest
-  → (next : ℕ) × HeadRead n bs packetTickets h next × (rest ≡ listReading n bs (countOf h) [] next)
+    → (next : ℕ) × HeadRead n bs packetTickets h next × (rest ≡ listReading n bs (countOf h) [] next)
 packet-head-is n bs h rest small e =
-  let b = packet-begins n bs h rest e in
-  (b .0, packet-head-only n bs packetTickets h (b .0) small (b .1), b .2)
+    let b = packet-begins n bs h rest e in
+    (b .0, packet-head-only n bs packetTickets h (b .0) small (b .1), b .2)
 
 pub packet-same : (b r c b′ r′ c′ : ℕ) → hd.Packet b r c ≡ hd.Packet b′ r′ c′ → (b ≡ b′) × (r ≡ r′) × (c ≡ c′)
 packet-same b r c b′ r′ c′ e = (cc, cc, cc)
@@ -71,14 +71,15 @@ packet-moved n bs b r b′ r′ ts e f p = rw (e, f) p
 
 -- all of it is right
 pub packet-right : (n : ℕ) (bs : List ℕ) (bed round count : ℕ) (rest : Reading) (ts : List Ticket) → Bytes bs → packetReading n bs ≡ head (hd.Packet bed round count) rest → ticketsOf rest ≡ Ok ts
-  → (packetOf n bs ≡ Ok (hd.Packet bed round (length ts), ts)) × IsPacket n bs bed round ts
+    → (packetOf n bs ≡ Ok (hd.Packet bed round (length ts), ts)) × IsPacket n bs bed round ts
 packet-right n bs bed round count rest ts small e t =
-  let i = packet-head-is n bs (hd.Packet bed round count) rest small e in
-  let l = packet-list-only n bs (hd.Packet bed round count) (i .0) ts small (i .1) (ap ticketsOf (sym (i .2)) ∙ t) in
-  let s = packet-same bed round count (i .1 .bed) (i .1 .round) (i .1 .count) (i .1 .is) in
-  let c : length ts ≡ count = l .0 ∙ sym (s .2) in
-  (packet-rest n bs (hd.Packet bed round count) rest e ∙ ap (mapOk (λ us. (hd.Packet bed round count, us))) t ∙ ap (λ (k : ℕ). Ok (hd.Packet bed round k, ts)) (sym c),
-   packet-moved n bs bed round (i .1 .bed) (i .1 .round) ts (s .0) (s .1) (l .1))
+    let i = packet-head-is n bs (hd.Packet bed round count) rest small e in
+    let l = packet-list-only n bs (hd.Packet bed round count) (i .0) ts small (i .1) (ap ticketsOf (sym (i .2)) ∙ t) in
+    let s = packet-same bed round count (i .1 .bed) (i .1 .round) (i .1 .count) (i .1 .is) in
+    let c : length ts ≡ count = l .0 ∙ sym (s .2) in (
+      packet-rest n bs (hd.Packet bed round count) rest e ∙ ap (mapOk (λ us. (hd.Packet bed round count, us))) t ∙ ap (λ (k : ℕ). Ok (hd.Packet bed round k, ts)) (sym c),
+      packet-moved n bs bed round (i .1 .bed) (i .1 .round) ts (s .0) (s .1) (l .1),
+    )
 
 no-ticket : (r : Result (Head × ℕ) WholeFault) (rest : Head → ℕ → Reading) (at : ℕ) (bytes : List ℕ) (k : Ticket) (x : Reading) → headFirst r rest ≡ ticket at bytes k x → ⊥
 no-ticket (Ok p) rest at bytes k x e = let z : _≡_ {A = ℕ} 0 1 = cc in omega arith
@@ -97,5 +98,5 @@ first-part n bs s t pt.End e g = absurd (no-end (packetHead n bs packetTickets) 
 
 -- what the reader answers after a head
 pub begun : (n : ℕ) (bs : List ℕ) (s t : Reader) (h : Head) → remaining s ≡ packetReading n bs → seenBy s ≡ [] → Steps s (Ok (pt.Head h)) t
-  → (packetReading n bs ≡ head h (remaining t)) × (allOf t ≡ ticketsOf (remaining t))
+    → (packetReading n bs ≡ head h (remaining t)) × (allOf t ≡ ticketsOf (remaining t))
 begun n bs s t h e z g = (sym e ∙ g .0, all-fresh t (remaining t) refl (g .1 ∙ z))

@@ -32,7 +32,7 @@ pub record NumberLaws : Type 0 where
 pub record BatchLaws : Type 0 where
   -- what is written is read again, part by part
   pub back : (n : ℕ) (ts : List Ticket) → n ≤ maxBeds → Sound n batchTickets ts
-    → batchReading n (batchBytes ts) ≡ head (hd.Batch (length ts)) (partsAt (length (form (length ts))) ts)
+      → batchReading n (batchBytes ts) ≡ head (hd.Batch (length ts)) (partsAt (length (form (length ts))) ts)
   -- what is accepted is the bytes of the sound list that is read, and the bytes of a sound list are accepted
   pub only : (n : ℕ) (bs : List ℕ) (ts : List Ticket) → Bytes bs → batchOf n bs ≡ Ok ts → IsBatch n bs ts
   pub whole : (n : ℕ) (bs : List ℕ) (ts : List Ticket) → n ≤ maxBeds → IsBatch n bs ts → batchOf n bs ≡ Ok ts
@@ -43,12 +43,12 @@ pub record BatchLaws : Type 0 where
 -- packets: the same with their head
 pub record PacketLaws : Type 0 where
   pub back : (n bed round : ℕ) (ts : List Ticket) → n ≤ maxBeds → SoundPacket n bed round ts
-    → packetReading n (packetBytes bed round ts)
+      → packetReading n (packetBytes bed round ts)
       ≡ head (hd.Packet bed round (length ts)) (partsAt (length mark + length (form bed) + length (form round) + length (form (length ts))) ts)
   pub only : (n : ℕ) (bs : List ℕ) (bed round count : ℕ) (ts : List Ticket) → Bytes bs → packetOf n bs ≡ Ok (hd.Packet bed round count, ts) → (count ≡ length ts) × IsPacket n bs bed round ts
   pub whole : (n : ℕ) (bs : List ℕ) (bed round : ℕ) (ts : List Ticket) → n ≤ maxBeds → IsPacket n bs bed round ts → packetOf n bs ≡ Ok (hd.Packet bed round (length ts), ts)
   pub one : (n bed round bed′ round′ : ℕ) (ts us : List Ticket) → n ≤ maxBeds → SoundPacket n bed round ts → SoundPacket n bed′ round′ us
-    → packetBytes bed round ts ≡ packetBytes bed′ round′ us → (bed ≡ bed′) × (round ≡ round′) × (ts ≡ us)
+      → packetBytes bed round ts ≡ packetBytes bed′ round′ us → (bed ≡ bed′) × (round ≡ round′) × (ts ≡ us)
   pub some : (bed round : ℕ) (ts : List Ticket) → 7 ≤ length (packetBytes bed round ts)
   pub short : (n bed round : ℕ) (ts : List Ticket) → n ≤ maxBeds → SoundPacket n bed round ts → length (packetBytes bed round ts) ≤ maxPacketBytes
 

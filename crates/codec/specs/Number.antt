@@ -31,10 +31,10 @@ above low (Err c) = Err c
 abbrev pub groupsAt : List ℕ → ℕ → ℕ → ℕ → Result (ℕ × ℕ) NumberCause
 groupsAt bs done zero at = Err NotShortest
 groupsAt bs done (suc left) at =
-  cond (ltb at (length bs))
+    cond (ltb at (length bs))
     (cond (ltb (getD bs at 0) 128)
-      (cond (eqb (getD bs at 0) 0 && ltb 0 done) (Err NotShortest) (Ok (getD bs at 0, at + 1)))
-      (above (getD bs at 0 - 128) (groupsAt bs (done + 1) left (at + 1))))
+    (cond (eqb (getD bs at 0) 0 && ltb 0 done) (Err NotShortest) (Ok (getD bs at 0, at + 1)))
+    (above (getD bs at 0 - 128) (groupsAt bs (done + 1) left (at + 1))))
     (Err Ends)
 
 -- a fault with the place of the number

@@ -53,7 +53,7 @@ ticketFirst bs at (Err f) rest = faulty (wf.List f)
 abbrev pub listReading : ℕ → List ℕ → ℕ → List Ticket → ℕ → Reading
 listReading n bs zero seen at = cond (ltb at (length bs)) (faulty (wf.Spare at)) (ended at)
 listReading n bs (suc due) seen at =
-  ticketFirst bs at (nextAt n bs seen at) (λ t next. listReading n bs due (seen ++ t ∷ []) next)
+    ticketFirst bs at (nextAt n bs seen at) (λ t next. listReading n bs due (seen ++ t ∷ []) next)
 
 -- the head of a batch: a count
 unfoldable pub batchHead : List ℕ → ℕ → Result (Head × ℕ) WholeFault
@@ -73,11 +73,11 @@ headAt bs at end = rangedAt wf.Number wf.Head bs at 0 end
 -- the head of a packet: the mark, the bed, the round and a count
 unfoldable pub packetHead : ℕ → List ℕ → ℕ → Result (Head × ℕ) WholeFault
 packetHead n bs most =
-  cond (ltb (length bs) (length mark)) (Err wf.Short) (cond (marked bs)
+    cond (ltb (length bs) (length mark)) (Err wf.Short) (cond (marked bs)
     (andThen (headAt bs (length mark) n) (λ bed a.
-     andThen (headAt bs a (maxRound + 1)) (λ round b.
-     andThen (raise wf.List (countAt bs b most)) (λ count c.
-     Ok (hd.Packet bed round count, c)))))
+    andThen (headAt bs a (maxRound + 1)) (λ round b.
+    andThen (raise wf.List (countAt bs b most)) (λ count c.
+    Ok (hd.Packet bed round count, c)))))
     (Err wf.Mark))
 
 abbrev pub countOf : Head → ℕ

@@ -74,5 +74,5 @@ countAt bs at most = rangedAt lf.Number lf.Count bs at 0 (most + 1)
 -- the ticket at a place, after those seen before it: its order is tested first, then its identity
 unfoldable pub nextAt : ℕ → List ℕ → List Ticket → ℕ → Result (Ticket × ℕ) ListFault
 nextAt n bs seen at =
-  andThen (raise lf.Ticket (ticketAt n bs at)) (λ t next.
-  cond (follows t seen) (cond (known t seen) (Err (lf.Repeated at)) (Ok (t, next))) (Err (lf.Order at)))
+    andThen (raise lf.Ticket (ticketAt n bs at)) (λ t next.
+    cond (follows t seen) (cond (known t seen) (Err (lf.Repeated at)) (Ok (t, next))) (Err (lf.Order at)))

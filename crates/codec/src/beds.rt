@@ -6,7 +6,7 @@ ghost use Rattle.codec.specs.Limits.{maxBeds};
 use super::limits::MAX_BEDS;
 
 /// How many beds a group has: 1 to 8. A bed is one laser cutter of the group, numbered from 0.
-#[derive(Clone, Copy, PartialEq, Debug)]
+#[derive(Clone, Copy)]
 pub struct Beds {
     count: u8,
     ghost some: { 1 ≤ count },

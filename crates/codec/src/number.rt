@@ -21,7 +21,7 @@ use super::report::Layer;
 use super::report::Report;
 
 /// Why no number could be read.
-#[derive(Clone, Copy, PartialEq, Debug)]
+#[derive(Clone, Copy)]
 pub enum NumberCause {
     /// The bytes end inside the number, or where it is due.
     Ends,
@@ -30,7 +30,7 @@ pub enum NumberCause {
 }
 
 /// A fault in a number, with the offset of its first byte.
-#[derive(Clone, Copy, PartialEq, Debug)]
+#[derive(Clone, Copy)]
 pub struct NumberFault {
     pub cause: NumberCause,
     pub place: usize,
@@ -45,7 +45,11 @@ impl NumberFault {
             NumberCause::Ends => Cause::Ends,
             NumberCause::NotShortest => Cause::NotShortest,
         };
-        Report { cause, place: self.place, layer: Layer::Number }
+        Report {
+            cause,
+            place: self.place,
+            layer: Layer::Number,
+        }
     }
 }
 
@@ -59,20 +63,29 @@ pub fn read_number(bytes: &[u8], at: usize) -> Result<(u32, usize), NumberFault>
     let mut next = at;
     for i in 0..NUMBER_BYTES {
         if next >= bytes.len() {
-            return Err(NumberFault { cause: NumberCause::Ends, place: at });
+            return Err(NumberFault {
+                cause: NumberCause::Ends,
+                place: at,
+            });
         }
         let byte = bytes[next];
         next += 1;
         if byte < 128 {
             if byte == 0 && i > 0 {
-                return Err(NumberFault { cause: NumberCause::NotShortest, place: at });
+                return Err(NumberFault {
+                    cause: NumberCause::NotShortest,
+                    place: at,
+                });
             }
             return Ok((value + u32::from(byte) * scale, next));
         }
         value += u32::from(byte - 128) * scale;
         scale *= 128;
     }
-    Err(NumberFault { cause: NumberCause::NotShortest, place: at })
+    Err(NumberFault {
+        cause: NumberCause::NotShortest,
+        place: at,
+    })
 }
 
 /// How many bytes the form of `value` has.

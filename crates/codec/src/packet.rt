@@ -56,7 +56,15 @@ pub fn read_packet(bytes: &[u8], beds: Beds) -> Result<Packet, WholeFault>
     };
     let tickets = reader.finish()?;
     match head {
-        Head::Packet { bed, round, count: _ } => Ok(Packet { bed, round, tickets }),
+        Head::Packet {
+            bed,
+            round,
+            count: _,
+        } => Ok(Packet {
+            bed,
+            round,
+            tickets,
+        }),
         Head::Batch { count: _ } => unreachable(),
     }
 }
@@ -70,7 +78,13 @@ fn put_mark(out: &mut [u8])
 }
 
 /// Writes a packet at the beginning of `out`, for a group of so many beds, and answers its length.
-pub fn write_packet(out: &mut [u8], bed: u8, round: u8, tickets: &[Ticket], beds: Beds) -> Result<usize, WriteRefusal>
+pub fn write_packet(
+    out: &mut [u8],
+    bed: u8,
+    round: u8,
+    tickets: &[Ticket],
+    beds: Beds,
+) -> Result<usize, WriteRefusal>
     ensures wrote { λ r. ⌜ Wrote (SoundPacket (beds .count) bed round (now (tickets .entry))) (packetBytes bed round (now (tickets .entry))) (now (out .entry)) r (now (out .exit)) ⌝ }
     ensures short { λ r. ⌜ Cases r (λ len. len ≤ maxPacketBytes) (λ _. Unit {0}) ⌝ }
 {

@@ -3,13 +3,15 @@ ghost use Prim.Native.Nat.{_+_, _≤_};
 ghost use lib.ListN.{length};
 ghost use denote.Ref.{now};
 ghost use Rattle.codec.specs.Limits.{packetTickets};
+
 mod parts;
+
 use super::beds::Beds;
 use super::ticket::Ticket;
 use super::tickets::Tickets;
 
 /// What a reader comes to next.
-#[derive(Clone, Copy, PartialEq, Debug)]
+#[derive(Clone, Copy)]
 pub(crate) enum Stage {
     BatchHead,
     PacketHead,
@@ -31,7 +33,7 @@ pub struct Reader<'a> {
 }
 
 /// What stands before the tickets.
-#[derive(Clone, Copy, PartialEq, Debug)]
+#[derive(Clone, Copy)]
 pub enum Head {
     Batch { count: u8 },
     Packet { bed: u8, round: u8, count: u8 },
@@ -42,6 +44,10 @@ pub enum Head {
 pub enum Part<'a> {
     Head(Head),
     /// A ticket: its stretch of the bytes, the offset of that, and its value.
-    Ticket { offset: usize, bytes: &'a [u8], ticket: Ticket },
+    Ticket {
+        offset: usize,
+        bytes: &'a [u8],
+        ticket: Ticket,
+    },
     End,
 }

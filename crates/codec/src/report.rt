@@ -3,7 +3,7 @@ ghost use mathlib.Core.Path.{_≡_};
 ghost use Rattle.codec.specs.Report.{causeNumber};
 
 /// What is wrong. The numbers are those of the documents.
-#[derive(Clone, Copy, PartialEq, Debug)]
+#[derive(Clone, Copy)]
 pub enum Cause {
     /// The bytes end inside a number, or where one is due.
     Ends = 1,
@@ -30,7 +30,7 @@ impl Cause {
 }
 
 /// Which part of the form has the fault.
-#[derive(Clone, Copy, PartialEq, Debug)]
+#[derive(Clone, Copy)]
 pub enum Layer {
     Number,
     Ticket,
@@ -39,7 +39,7 @@ pub enum Layer {
 }
 
 /// A fault as it is told: the place is an offset into the bytes.
-#[derive(Clone, Copy, PartialEq, Debug)]
+#[derive(Clone, Copy)]
 pub struct Report {
     pub cause: Cause,
     pub place: usize,

@@ -22,8 +22,6 @@ use super::limits::MAX_PATHS;
 use super::limits::MAX_SHEET;
 use super::limits::MIN_NUMBER;
 use super::number::NumberFault;
-use super::number::NumberFaultDebug;
-use super::number::NumberFaultPartialEq;
 use super::number::number_len;
 use super::number::put_number;
 use super::number::read_number;
@@ -33,7 +31,7 @@ use super::report::Layer;
 use super::report::Report;
 
 /// One job. Its identity is its origin and its number.
-#[derive(Clone, Copy, PartialEq, Debug)]
+#[derive(Clone, Copy)]
 pub struct Ticket {
     pub paths: u32,
     pub origin: u8,
@@ -42,7 +40,7 @@ pub struct Ticket {
 }
 
 /// A fault inside a ticket.
-#[derive(Clone, Copy, PartialEq, Debug)]
+#[derive(Clone, Copy)]
 pub enum TicketFault {
     Number(NumberFault),
     /// The field at this offset is out of its range.
@@ -64,7 +62,11 @@ impl TicketFault {
     {
         match self {
             TicketFault::Number(fault) => fault.report(),
-            TicketFault::Range(place) => Report { cause: Cause::OutOfRange, place, layer: Layer::Ticket },
+            TicketFault::Range(place) => Report {
+                cause: Cause::OutOfRange,
+                place,
+                layer: Layer::Ticket,
+            },
         }
     }
 }
@@ -122,7 +124,12 @@ pub fn read_ticket(bytes: &[u8], at: usize, beds: Beds) -> Result<(Ticket, usize
     let (origin, at) = read_field(bytes, at, 0, u32::from(beds.count()))?;
     let (number, at) = read_field(bytes, at, MIN_NUMBER, MAX_NUMBER + 1)?;
     let (sheet, at) = read_field(bytes, at, 0, MAX_SHEET + 1)?;
-    let ticket = Ticket { paths, origin: origin as u8, number: number as u16, sheet: sheet as u8 };
+    let ticket = Ticket {
+        paths,
+        origin: origin as u8,
+        number: number as u16,
+        sheet: sheet as u8,
+    };
     Ok((ticket, at))
 }
 

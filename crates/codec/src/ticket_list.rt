@@ -12,8 +12,6 @@ ghost use Rattle.codec.specs.Report.{listReport};
 ghost use Rattle.codec.specs.declared.ticket_list.ListFault.the-variants.{Number as ListNumber, Ticket as ListTicket};
 use super::beds::Beds;
 use super::number::NumberFault;
-use super::number::NumberFaultDebug;
-use super::number::NumberFaultPartialEq;
 use super::number::number_len;
 use super::number::put_number;
 use super::number::read_number;
@@ -22,14 +20,12 @@ use super::report::Layer;
 use super::report::Report;
 use super::ticket::Ticket;
 use super::ticket::TicketFault;
-use super::ticket::TicketFaultDebug;
-use super::ticket::TicketFaultPartialEq;
 use super::ticket::put_ticket;
 use super::ticket::read_ticket;
 use super::ticket::ticket_len;
 
 /// A fault in a list of tickets.
-#[derive(Clone, Copy, PartialEq, Debug)]
+#[derive(Clone, Copy)]
 pub enum ListFault {
     /// In the count.
     Number(NumberFault),
@@ -66,9 +62,21 @@ impl ListFault {
         match self {
             ListFault::Number(fault) => fault.report(),
             ListFault::Ticket(fault) => fault.report(),
-            ListFault::Count(place) => Report { cause: Cause::OutOfRange, place, layer: Layer::List },
-            ListFault::Order(place) => Report { cause: Cause::OutOfOrder, place, layer: Layer::List },
-            ListFault::Repeated(place) => Report { cause: Cause::Repeated, place, layer: Layer::List },
+            ListFault::Count(place) => Report {
+                cause: Cause::OutOfRange,
+                place,
+                layer: Layer::List,
+            },
+            ListFault::Order(place) => Report {
+                cause: Cause::OutOfOrder,
+                place,
+                layer: Layer::List,
+            },
+            ListFault::Repeated(place) => Report {
+                cause: Cause::Repeated,
+                place,
+                layer: Layer::List,
+            },
         }
     }
 }
@@ -110,7 +118,12 @@ pub(crate) fn read_count(bytes: &[u8], at: usize, most: usize) -> Result<(usize,
 }
 
 // The ticket at `at`, which comes after those seen.
-pub(crate) fn read_next(bytes: &[u8], at: usize, beds: Beds, seen: &[Ticket]) -> Result<(Ticket, usize), ListFault>
+pub(crate) fn read_next(
+    bytes: &[u8],
+    at: usize,
+    beds: Beds,
+    seen: &[Ticket],
+) -> Result<(Ticket, usize), ListFault>
     ensures value { λ r. ⌜ r ≡ nextAt (beds .count) (now (bytes .entry)) (now (seen .entry)) at ⌝ }
     ensures within { λ r. ⌜ Cases r (λ p. (at < p .1) × (p .1 ≤ length (now (bytes .entry)))) (λ _. Unit {0}) ⌝ }
 {

@@ -1,7 +1,9 @@
 // A list of tickets with a fixed place for each.
 ghost use Prim.Native.Nat.{_≤_};
 ghost use Rattle.codec.specs.Limits.{packetTickets};
+
 mod methods;
+
 use super::limits::PACKET_TICKETS;
 use super::ticket::Ticket;
 

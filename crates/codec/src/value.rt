@@ -3,7 +3,9 @@ ghost use mathlib.Core.Path.{_≡_};
 ghost use Prim.Native.Nat.{_≤_};
 ghost use lib.ListN.{length};
 ghost use Rattle.codec.specs.Limits.{maxBatchBytes};
+
 mod methods;
+
 use super::limits::MAX_BATCH_BYTES;
 
 /// 1 to 65 bytes, as many as a batch has.

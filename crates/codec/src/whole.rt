@@ -3,17 +3,13 @@ ghost use mathlib.Core.Path.{_≡_};
 ghost use Rattle.codec.specs.Report.{wholeReport};
 ghost use Rattle.codec.specs.declared.whole.WholeFault.the-variants.{Number as WholeNumber, List as WholeList};
 use super::number::NumberFault;
-use super::number::NumberFaultDebug;
-use super::number::NumberFaultPartialEq;
 use super::report::Cause;
 use super::report::Layer;
 use super::report::Report;
 use super::ticket_list::ListFault;
-use super::ticket_list::ListFaultDebug;
-use super::ticket_list::ListFaultPartialEq;
 
 /// A fault in a batch or a packet, the whole of it.
-#[derive(Clone, Copy, PartialEq, Debug)]
+#[derive(Clone, Copy)]
 pub enum WholeFault {
     /// In a packet's bed or round.
     Number(NumberFault),
@@ -52,10 +48,26 @@ impl WholeFault {
         match self {
             WholeFault::Number(fault) => fault.report(),
             WholeFault::List(fault) => fault.report(),
-            WholeFault::Short => Report { cause: Cause::Ends, place: 0, layer: Layer::Whole },
-            WholeFault::Mark => Report { cause: Cause::Mark, place: 0, layer: Layer::Whole },
-            WholeFault::Head(place) => Report { cause: Cause::OutOfRange, place, layer: Layer::Whole },
-            WholeFault::Spare(place) => Report { cause: Cause::Spare, place, layer: Layer::Whole },
+            WholeFault::Short => Report {
+                cause: Cause::Ends,
+                place: 0,
+                layer: Layer::Whole,
+            },
+            WholeFault::Mark => Report {
+                cause: Cause::Mark,
+                place: 0,
+                layer: Layer::Whole,
+            },
+            WholeFault::Head(place) => Report {
+                cause: Cause::OutOfRange,
+                place,
+                layer: Layer::Whole,
+            },
+            WholeFault::Spare(place) => Report {
+                cause: Cause::Spare,
+                place,
+                layer: Layer::Whole,
+            },
         }
     }
 
@@ -68,7 +80,7 @@ impl WholeFault {
 }
 
 /// What faulty bytes were read from.
-#[derive(Clone, Copy, PartialEq, Debug)]
+#[derive(Clone, Copy)]
 pub enum Source {
     Packet,
     Memory,
@@ -76,7 +88,7 @@ pub enum Source {
 }
 
 /// The bed that read faulty bytes, its round, and what it read them from.
-#[derive(Clone, Copy, PartialEq, Debug)]
+#[derive(Clone, Copy)]
 pub struct Site {
     pub bed: u8,
     pub round: u8,
@@ -84,7 +96,7 @@ pub struct Site {
 }
 
 /// A fault with its site.
-#[derive(Clone, Copy, PartialEq, Debug)]
+#[derive(Clone, Copy)]
 pub struct SitedFault {
     pub fault: WholeFault,
     pub site: Site,

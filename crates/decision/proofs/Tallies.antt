@@ -38,8 +38,8 @@ lowest-more s round k e = rw add-one (ap (λ (x : Option (List ℕ)). orElse x (
 pub lowest-stays : (s : Board) (round k j : ℕ) (v : List ℕ) → lowestBelow s round k ≡ Some v → lowestBelow s round (j + k) ≡ Some v
 lowest-stays s round k zero v e = let z : 0 + k ≡ k = omega arith in ap (lowestBelow s round) z ∙ e
 lowest-stays s round k (suc j) v e =
-  let z : suc j + k ≡ suc (j + k) = omega arith in
-  ap (lowestBelow s round) z ∙ ap (λ (x : Option (List ℕ)). orElse x (s .proposal (j + k) round)) (lowest-stays s round k j v e)
+    let z : suc j + k ≡ suc (j + k) = omega arith in
+    ap (lowestBelow s round) z ∙ ap (λ (x : Option (List ℕ)). orElse x (s .proposal (j + k) round)) (lowest-stays s round k j v e)
 
 pub some-is : (o : Option (List ℕ)) → isSome o ≡ true → (v : List ℕ) × (o ≡ Some v)
 some-is (Some v) e = (v, refl)
@@ -48,9 +48,9 @@ some-is None e = absurd (let z : _≡_ {A = ℕ} 0 1 = cc in omega arith)
 -- the first found is the lowest
 pub lowest-found : (s : Board) (round k n : ℕ) → k < n → lowestBelow s round k ≡ None → isSome (s .proposal k round) ≡ true → s .proposal k round ≡ lowestBelow s round n
 lowest-found s round k n h e i =
-  let v = some-is (s .proposal k round) i in
-  let j : n - (k + 1) + (k + 1) ≡ n = omega arith in
-  v .1 ∙ sym (lowest-stays s round (k + 1) (n - (k + 1)) (v .0) (lowest-more s round k e ∙ v .1)) ∙ ap (lowestBelow s round) j
+    let v = some-is (s .proposal k round) i in
+    let j : n - (k + 1) + (k + 1) ≡ n = omega arith in
+    v .1 ∙ sym (lowest-stays s round (k + 1) (n - (k + 1)) (v .0) (lowest-more s round k e ∙ v .1)) ∙ ap (lowestBelow s round) j
 
 pub lowest-on : (s : Board) (round k : ℕ) → lowestBelow s round k ≡ None → isSome (s .proposal k round) ≡ false → lowestBelow s round (k + 1) ≡ None
 lowest-on s round k e i = lowest-more s round k e ∙ none-is (s .proposal k round) i
@@ -59,10 +59,11 @@ lowest-on s round k e i = lowest-more s round k e ∙ none-is (s .proposal k rou
 counted-one : (s : Board) (round k : ℕ) → 0 < proposers s round k → (bed : ℕ) × (bed < k) × (isSome (s .proposal bed round) ≡ true)
 counted-one s round zero h = absurd (omega arith)
 counted-one s round (suc k) h =
-  elim (cases-bool (isSome (s .proposal k round))) [
-    inl e ↦ (k, omega arith, e)
-  | inr e ↦ (let m : proposers s round (suc k) ≡ 0 + proposers s round k = ap (λ (x : Bool). cond x 1 0 + proposers s round k) e in
-             let r = counted-one s round k (omega arith) in (r .0, omega (arith, r .1), r .2)) ]
+    elim (cases-bool (isSome (s .proposal k round))) [
+      | inl e ↦ (k, omega arith, e)
+      | inr e ↦ (let m : proposers s round (suc k) ≡ 0 + proposers s round k = ap (λ (x : Bool). cond x 1 0 + proposers s round k) e in
+          let r = counted-one s round k (omega arith) in (r .0, omega (arith, r .1), r .2))
+    ]
 
 pub enough-one : (s : Board) (round : ℕ) → Enough s round → (bed : ℕ) × (bed < s .beds) × (isSome (s .proposal bed round) ≡ true)
 unfolding Enough
@@ -72,19 +73,22 @@ enough-one s round h = counted-one s round (s .beds) (omega arith)
 pub lowest-some : (s : Board) (round k bed : ℕ) → bed < k → isSome (s .proposal bed round) ≡ true → isSome (lowestBelow s round k) ≡ true
 lowest-some s round zero bed h e = absurd (omega arith)
 lowest-some s round (suc k) bed h e =
-  elim (cases-bool (isSome (lowestBelow s round k))) [
-    inl f ↦ (let v = some-is (lowestBelow s round k) f in ap (λ (x : Option (List ℕ)). isSome (orElse x (s .proposal k round))) (v .1))
-  | inr f ↦ (let n = none-is (lowestBelow s round k) f in
-             elim (cases-eq bed k) [
-               inl q ↦ ap (λ (x : Option (List ℕ)). isSome (orElse x (s .proposal k round))) n ∙ subst (λ (j : ℕ). isSome (s .proposal j round) ≡ true) q e
-             | inr q ↦ absurd (both-ways (isSome (lowestBelow s round k)) f (lowest-some s round k bed (omega arith) e)) ]) ]
+    elim (cases-bool (isSome (lowestBelow s round k))) [
+      | inl f ↦ (let v = some-is (lowestBelow s round k) f in ap (λ (x : Option (List ℕ)). isSome (orElse x (s .proposal k round))) (v .1))
+      | inr f ↦ (let n = none-is (lowestBelow s round k) f in
+          elim (cases-eq bed k) [
+            | inl q ↦ ap (λ (x : Option (List ℕ)). isSome (orElse x (s .proposal k round))) n ∙ subst (λ (j : ℕ). isSome (s .proposal j round) ≡ true) q e
+            | inr q ↦ absurd (both-ways (isSome (lowestBelow s round k)) f (lowest-some s round k bed (omega arith) e))
+          ])
+    ]
 
 -- and it is a proposal of the group
 pub lowest-is : (s : Board) (round k : ℕ) (v : List ℕ) → lowestBelow s round k ≡ Some v → (bed : ℕ) × (bed < k) × (s .proposal bed round ≡ Some v)
 lowest-is s round zero v e = absurd (let z : _≡_ {A = ℕ} 0 1 = cc in omega arith)
 lowest-is s round (suc k) v e =
-  elim (cases-bool (isSome (lowestBelow s round k))) [
-    inl f ↦ (let u = some-is (lowestBelow s round k) f in
-             let w : Some (u .0) ≡ Some v = sym (ap (λ (x : Option (List ℕ)). orElse x (s .proposal k round)) (u .1)) ∙ e in
-             let r = lowest-is s round k v (u .1 ∙ w) in (r .0, omega (arith, r .1), r .2))
-  | inr f ↦ (k, omega arith, sym (ap (λ (x : Option (List ℕ)). orElse x (s .proposal k round)) (none-is (lowestBelow s round k) f)) ∙ e) ]
+    elim (cases-bool (isSome (lowestBelow s round k))) [
+      | inl f ↦ (let u = some-is (lowestBelow s round k) f in
+          let w : Some (u .0) ≡ Some v = sym (ap (λ (x : Option (List ℕ)). orElse x (s .proposal k round)) (u .1)) ∙ e in
+          let r = lowest-is s round k v (u .1 ∙ w) in (r .0, omega (arith, r .1), r .2))
+      | inr f ↦ (k, omega arith, sym (ap (λ (x : Option (List ℕ)). orElse x (s .proposal k round)) (none-is (lowestBelow s round k) f)) ∙ e)
+    ]

@@ -33,7 +33,8 @@ abbrev pub boardOf : Ballots → Board
 boardOf b = record {
   beds = b .beds .count;
   proposal = tableProposal (b .beds .count) (b .proposals);
-  decision = tableDecision (b .decisions) }
+  decision = tableDecision (b .decisions);
+}
 
 -- a proposal recorded where there is none, and nothing else
 pub record Proposes (s : Board) (bed round : ℕ) (bytes : List ℕ) (r : Result PutAnswer DecisionRefusal) (s′ : Board) : Type 0 where
@@ -63,11 +64,11 @@ pub record MajorityPoll (s : Board) (round : ℕ) (s′ : Board) : Type 0 where
 -- ---- what stands is within the limits
 
 proposed : (beds bed round : ℕ) (b : Bool) (o : Option Value) (v : List ℕ) → (b ≡ true → (bed < beds) × (round < roundCount))
-  → _≡_ {A = Option (List ℕ)} (cond b (shown o) None) (Some v) → Within beds bed round (length v)
+    → _≡_ {A = Option (List ℕ)} (cond b (shown o) None) (Some v) → Within beds bed round (length v)
 proposed beds bed round true (Some x) v p e =
-  let q : valueBytes x ≡ v = cc in
-  let i = p refl in
-  record { bed-in = i .0; round-in = i .1; some = subst (λ (l : List ℕ). 1 ≤ length l) q (value-some x); most = subst (λ (l : List ℕ). length l ≤ maxBatchBytes) q (value-most x) }
+    let q : valueBytes x ≡ v = cc in
+    let i = p refl in
+    record { bed-in = i .0; round-in = i .1; some = subst (λ (l : List ℕ). 1 ≤ length l) q (value-some x); most = subst (λ (l : List ℕ). length l ≤ maxBatchBytes) q (value-most x) }
 proposed beds bed round true None v p e = absurd (let z : _≡_ {A = ℕ} 0 1 = cc in omega arith)
 proposed beds bed round false o v p e = absurd (let z : _≡_ {A = ℕ} 0 1 = cc in omega arith)
 
@@ -76,5 +77,6 @@ boardBounded b = record {
   some-beds = b .beds .some;
   most-beds = b .beds .most;
   proposals = λ bed round v e.
-    proposed (b .beds .count) bed round (ltb bed (b .beds .count) && ltb round roundCount) (getD (b .proposals) (proposalIndex bed round) None) v
-      (λ t. let a = and-parts (ltb bed (b .beds .count)) (ltb round roundCount) t in (ltb-true bed (b .beds .count) (a .0), ltb-true round roundCount (a .1))) e }
+      proposed (b .beds .count) bed round (ltb bed (b .beds .count) && ltb round roundCount) (getD (b .proposals) (proposalIndex bed round) None) v
+      (λ t. let a = and-parts (ltb bed (b .beds .count)) (ltb round roundCount) t in (ltb-true bed (b .beds .count) (a .0), ltb-true round roundCount (a .1))) e;
+}

@@ -4,9 +4,11 @@ ghost use mathlib.Core.Bool.{true};
 ghost use Prim.Native.Nat.{ℕ};
 ghost use Rattle.std.specs.Options.{isSome};
 ghost use Rattle.decision.specs.Ballots.{boardOf};
+
 mod calls;
-pub use calls::FirstComerService;
+
 use super::ballots::Ballots;
+pub use calls::FirstComerService;
 
 /// A service that decides for the first proposal of each round.
 #[derive(Drop)]

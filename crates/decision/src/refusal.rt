@@ -3,7 +3,7 @@ ghost use mathlib.Core.Path.{_≡_};
 ghost use Rattle.decision.specs.Refusal.{refusalNumber};
 
 /// Why a decision service refuses.
-#[derive(Clone, Copy, PartialEq, Debug)]
+#[derive(Clone, Copy)]
 pub enum DecisionRefusal {
     /// A service for other than 1 to 8 beds.
     Size,

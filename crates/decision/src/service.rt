@@ -6,7 +6,7 @@ use codec::beds::Beds;
 use codec::value::Value;
 
 /// What a put answers: whether the proposal was recorded, or the bed had one in that round.
-#[derive(Clone, Copy, PartialEq, Debug)]
+#[derive(Clone, Copy)]
 pub enum PutAnswer {
     Taken,
     Had,

@@ -13,11 +13,14 @@ use Rattle.inspect.specs.declared.fault.LineError.the-variants as le
 
 abbrev pub lineWords : LineFault → List ℕ
 lineWords lf.Empty = codes "the line is empty"
-lineWords lf.Letter = codes "the line begins with neither b nor p"
+lineWords lf.Letter = codes "the line begins with neither b, c nor p"
 lineWords lf.NoBeds = codes "no space and number of beds follow the letter"
 lineWords lf.Beds = codes "the number of beds is not one digit, 1 to 8"
 lineWords (lf.NotHex offset) = codes "the character at offset " ++ (decimal offset ++ codes " is no hexadecimal digit")
 lineWords (lf.HalfPair offset) = codes "a pair of digits lacks its second at offset " ++ decimal offset
+lineWords lf.NoFile = codes "no name of a file follows the number of beds"
+lineWords lf.Unread = codes "the file cannot be read"
+lineWords (lf.FewCells cells) = codes "refusal 16, the file has " ++ (decimal cells ++ codes " cells and a chip has 17152")
 
 -- goes on with what was read; a fault ends all
 abbrev pub andThen : {A B F : Type 0} → Result A F → (A → Result B F) → Result B F

@@ -5,3 +5,4 @@ pub mod Line
 pub mod Grammar
 pub mod Words
 pub mod Answer
+pub mod Image

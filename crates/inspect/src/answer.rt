@@ -65,14 +65,14 @@ fn fault_text(heap: Global, fault: WholeFault) -> Result<String, AllocError>
     format!(heap, "fault cause {cause} at {place} in {layer}: {words}\n")
 }
 
-fn refusal_text(heap: Global, number: usize, fault: LineFault) -> Result<String, AllocError>
+pub fn refusal_text(heap: Global, number: usize, fault: LineFault) -> Result<String, AllocError>
     ensures { λ r. ⌜ made r (λ s. string-bytes s ≡ refusalText number fault) ⌝ }
 {
     format!(heap, "line {number}: {fault}\n")
 }
 
 // The parts that a reader has still to hand out, one to a line.
-fn parts_text(heap: Global, mut reader: Reader, length: usize) -> Result<String, AllocError>
+pub fn parts_text(heap: Global, mut reader: Reader, length: usize) -> Result<String, AllocError>
     ensures { λ r. ⌜ made r (λ s. string-bytes s ≡ partsText length (remaining (reader .entry))) ⌝ }
 {
     let mut text = String::new(heap);

@@ -10,7 +10,7 @@ use std::fmt;
 #[derive(Clone, Copy)]
 pub enum LineFault {
     Empty,
-    /// The first character is neither `b` nor `p`.
+    /// The first character is neither `b`, `c` nor `p`.
     Letter,
     /// No space and digit follow the letter.
     NoBeds,
@@ -20,6 +20,12 @@ pub enum LineFault {
     NotHex(usize),
     /// A pair of digits lacks its second, which was due at this offset.
     HalfPair(usize),
+    /// No name of a file follows the number of beds.
+    NoFile,
+    /// The file cannot be read.
+    Unread,
+    /// The file has only so many bytes, fewer than a chip has cells.
+    FewCells(usize),
 }
 
 pub impl fmt::Display for LineFault as LineFaultDisplay {
@@ -28,7 +34,7 @@ pub impl fmt::Display for LineFault as LineFaultDisplay {
     fn fmt<W: fmt::Write>(&self, f: &mut fmt::Formatter<W>) -> fmt::Result {
         match *self {
             LineFault::Empty => write!(f, "the line is empty"),
-            LineFault::Letter => write!(f, "the line begins with neither b nor p"),
+            LineFault::Letter => write!(f, "the line begins with neither b, c nor p"),
             LineFault::NoBeds => write!(f, "no space and number of beds follow the letter"),
             LineFault::Beds => write!(f, "the number of beds is not one digit, 1 to 8"),
             LineFault::NotHex(offset) => write!(
@@ -38,6 +44,12 @@ pub impl fmt::Display for LineFault as LineFaultDisplay {
             LineFault::HalfPair(offset) => write!(
                 f,
                 "a pair of digits lacks its second at offset {offset}"
+            ),
+            LineFault::NoFile => write!(f, "no name of a file follows the number of beds"),
+            LineFault::Unread => write!(f, "the file cannot be read"),
+            LineFault::FewCells(cells) => write!(
+                f,
+                "refusal 16, the file has {cells} cells and a chip has 17152"
             ),
         }
     }

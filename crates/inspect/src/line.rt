@@ -41,7 +41,7 @@ fn read_form(line: &[u8]) -> Result<Form, LineFault>
 }
 
 // The number of beds, after the letter and a space, and with nothing or a space behind it.
-fn read_beds(line: &[u8]) -> Result<Beds, LineFault>
+pub fn read_beds(line: &[u8]) -> Result<Beds, LineFault>
     ensures { λ r. ⌜ mapOk (λ b. b .count) r ≡ bedsOf (now (line .entry)) ⌝ }
 {
     let [_, b' ', digit @ b'0'..=b'9', rest @ ..] = line else {

@@ -23,7 +23,7 @@ missed l i k v h = getD-set-other l i k v 0 h
 
 -- the loop's step
 pub written-step : (cells : List ℕ) (p : ℕ) (bytes : List ℕ) (i : ℕ)
-  → written cells p bytes (i + 1) ≡ set (written cells p bytes i) (p + keepPlace (length bytes) i) (keepCell bytes i)
+    → written cells p bytes (i + 1) ≡ set (written cells p bytes i) (p + keepPlace (length bytes) i) (keepCell bytes i)
 written-step cells p bytes i = rw add-one
 
 pub length-written : (cells : List ℕ) (p : ℕ) (bytes : List ℕ) (count : ℕ) → length (written cells p bytes count) ≡ length cells
@@ -56,9 +56,9 @@ pub record Written (before after : List ℕ) (p : ℕ) (bytes : List ℕ) (count
   pub above : (k : ℕ) → p + slotCells ≤ k → getD after k 0 ≡ getD before k 0
 
 more : (before after bytes : List ℕ) (p i q v : ℕ) → p + slotCells ≤ length after → 1 ≤ length bytes → length bytes ≤ maxBatchBytes → i < length bytes + 2
-  → (i ≤ length bytes → q ≡ i) → (length bytes < i → q ≡ markPlace)
-  → (i ≡ 0 → v ≡ length bytes) → ((k : ℕ) → i ≡ k + 1 → k < length bytes → v ≡ getD bytes k 0) → (length bytes < i → v ≡ 165)
-  → Written before after p bytes i → Written before (set after (p + q) v) p bytes (suc i)
+    → (i ≤ length bytes → q ≡ i) → (length bytes < i → q ≡ markPlace)
+    → (i ≡ 0 → v ≡ length bytes) → ((k : ℕ) → i ≡ k + 1 → k < length bytes → v ≡ getD bytes k 0) → (length bytes < i → v ≡ 165)
+    → Written before after p bytes i → Written before (set after (p + q) v) p bytes (suc i)
 more before after bytes p i q v room some most i-in front last v-first v-middle v-last w =
     let q-in : p + q < length after = grind arith in
     record {
@@ -71,7 +71,7 @@ more before after bytes p i q v room some most i-in front last v-first v-middle 
     }
 
 pub written-is : (cells : List ℕ) (p : ℕ) (bytes : List ℕ) (count : ℕ) → p + slotCells ≤ length cells → 1 ≤ length bytes → length bytes ≤ maxBatchBytes → count ≤ length bytes + 2
-  → Written cells (written cells p bytes count) p bytes count
+    → Written cells (written cells p bytes count) p bytes count
 written-is cells p bytes zero room some most h = record {
   length-cell = λ z. absurd (omega arith);
   bytes-cells = λ k h₁ h₂. absurd (omega arith);
@@ -83,6 +83,6 @@ written-is cells p bytes zero room some most h = record {
 written-is cells p bytes (suc i) room some most h =
     let long : p + slotCells ≤ length (written cells p bytes i) = omega (arith, length-written cells p bytes i) in
     more cells (written cells p bytes i) bytes p i (keepPlace (length bytes) i) (keepCell bytes i) long some most (omega arith)
-      (place-front (length bytes) i) (place-last (length bytes) i)
-      (value-first bytes i) (λ k e z. value-middle bytes i k e z) (value-last bytes i)
-      (written-is cells p bytes i room some most (omega arith))
+    (place-front (length bytes) i) (place-last (length bytes) i)
+    (value-first bytes i) (λ k e z. value-middle bytes i k e z) (value-last bytes i)
+    (written-is cells p bytes i room some most (omega arith))

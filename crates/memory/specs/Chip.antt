@@ -69,9 +69,9 @@ keepCells cells p bytes = cond (full cells p) cells (written cells p bytes (leng
 -- power fails after `at` finished cells of a keep, and the cell then under way holds the junk
 unfoldable pub tornCells : List ℕ → ℕ → List ℕ → ℕ → ℕ → List ℕ
 tornCells cells p bytes «at» junk =
-  cond (full cells p) cells
+    cond (full cells p) cells
     (cond (leb (length bytes + 2) «at») (written cells p bytes (length bytes + 2))
-      (set (written cells p bytes «at») (p + keepPlace (length bytes) «at») junk))
+    (set (written cells p bytes «at») (p + keepPlace (length bytes) «at») junk))
 
 -- every cell is 00
 abbrev pub Blank : List ℕ → Type 0

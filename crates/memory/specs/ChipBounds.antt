@@ -24,11 +24,11 @@ some-same x v e = cc
 
 pub chipBounded : (cells : List ℕ) → chipCells ≤ length cells → Bounded (chipHolds cells)
 chipBounded cells big bed slot v e =
-  let p = through (placed bed slot) (slotHolds cells (start bed slot)) v e in
-  let a = and-parts (ltb bed maxBeds) (ltb slot slotCount) (p .0) in
-  let bed-in = ltb-true bed maxBeds (a .0) in
-  let slot-in = ltb-true slot slotCount (a .1) in
-  let q = through (full cells (start bed slot)) _ v (p .1) in
-  let same = some-same (take (counted (getD cells (start bed slot) 0)) (drop (start bed slot + 1) cells)) v (q .1) in
-  let len : length v ≡ min (counted (getD cells (start bed slot) 0)) (length cells - (start bed slot + 1)) = sym (ap length same) ∙ simp (length-take, length-drop) in
-  record { place = record { bed-in = bed-in; slot-in = slot-in }; some = omega arith; most = omega arith }
+    let p = through (placed bed slot) (slotHolds cells (start bed slot)) v e in
+    let a = and-parts (ltb bed maxBeds) (ltb slot slotCount) (p .0) in
+    let bed-in = ltb-true bed maxBeds (a .0) in
+    let slot-in = ltb-true slot slotCount (a .1) in
+    let q = through (full cells (start bed slot)) _ v (p .1) in
+    let same = some-same (take (counted (getD cells (start bed slot) 0)) (drop (start bed slot + 1) cells)) v (q .1) in
+    let len : length v ≡ min (counted (getD cells (start bed slot) 0)) (length cells - (start bed slot + 1)) = sym (ap length same) ∙ simp (length-take, length-drop) in
+    record { place = record { bed-in = bed-in; slot-in = slot-in }; some = omega arith; most = omega arith }

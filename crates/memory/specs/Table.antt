@@ -21,15 +21,15 @@ tableHolds slots bed slot = cond (placed bed slot) (shown (getD slots (slotIndex
 
 -- what a slot shows has 1 to 65 bytes
 within : (bed slot : ℕ) (b : Bool) (o : Option Value) (v : List ℕ) → (b ≡ true → (bed < maxBeds) × (slot < slotCount))
-  → _≡_ {A = Option (List ℕ)} (cond b (shown o) None) (Some v) → Within bed slot (length v)
+    → _≡_ {A = Option (List ℕ)} (cond b (shown o) None) (Some v) → Within bed slot (length v)
 within bed slot true (Some x) v p e =
-  let q : valueBytes x ≡ v = cc in
-  let i = p refl in
-  record { place = record { bed-in = i .0; slot-in = i .1 }; some = subst (λ (l : List ℕ). 1 ≤ length l) q (value-some x); most = subst (λ (l : List ℕ). length l ≤ maxBatchBytes) q (value-most x) }
+    let q : valueBytes x ≡ v = cc in
+    let i = p refl in
+    record { place = record { bed-in = i .0; slot-in = i .1 }; some = subst (λ (l : List ℕ). 1 ≤ length l) q (value-some x); most = subst (λ (l : List ℕ). length l ≤ maxBatchBytes) q (value-most x) }
 within bed slot true None v p e = absurd (let z : _≡_ {A = ℕ} 0 1 = cc in omega arith)
 within bed slot false o v p e = absurd (let z : _≡_ {A = ℕ} 0 1 = cc in omega arith)
 
 pub tableBounded : (slots : List (Option Value)) → Bounded (tableHolds slots)
 tableBounded slots bed slot v e =
-  within bed slot (placed bed slot) (getD slots (slotIndex bed slot) None) v
+    within bed slot (placed bed slot) (getD slots (slotIndex bed slot) None) v
     (λ t. let a = and-parts (ltb bed maxBeds) (ltb slot slotCount) t in (ltb-true bed maxBeds (a .0), ltb-true slot slotCount (a .1))) e

@@ -32,8 +32,11 @@ use codec::limits::MAX_BATCH_BYTES;
 
 /// The cells of a chip.
 pub const CELLS: usize = 17_152;
+
 const SLOT_CELLS: usize = 67;
+
 const MARK_PLACE: usize = 66;
+
 const MARK: u8 = 0xA5;
 
 /// A memory in cells that somebody else owns.
@@ -48,7 +51,11 @@ impl<'a> Chip<'a> {
     pub fn check(cells: &[u8]) -> Result<(), MemoryRefusal>
         ensures { λ r. ⌜ r ≡ cond (ltb (length (now (cells .entry))) chipCells) (Err Cells) (Ok tt) ⌝ }
     {
-        if cells.len() < CELLS { Err(MemoryRefusal::Cells) } else { Ok(()) }
+        if cells.len() < CELLS {
+            Err(MemoryRefusal::Cells)
+        } else {
+            Ok(())
+        }
     }
 
     /// A chip in cells that `check` found to be enough. What they hold is what it holds.

@@ -3,7 +3,7 @@ ghost use mathlib.Core.Path.{_≡_};
 ghost use Rattle.memory.specs.Refusal.{refusalNumber};
 
 /// Why a memory refuses. What it holds is then as it was.
-#[derive(Clone, Copy, PartialEq, Debug)]
+#[derive(Clone, Copy)]
 pub enum MemoryRefusal {
     /// Fewer cells than a chip has.
     Cells,

@@ -27,7 +27,9 @@ impl Table {
     pub fn new() -> Table
         ensures { λ r. ⌜ ((bed slot : ℕ) → tableHolds (r .slots) bed slot ≡ None) ⌝ }
     {
-        Table { slots: [None; ALL_SLOTS] }
+        Table {
+            slots: [None; ALL_SLOTS],
+        }
     }
 }
 

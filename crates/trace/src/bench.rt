@@ -51,7 +51,14 @@ impl Bench {
         };
         let memory = MemoryKind::Table;
         let service = ServiceKind::First;
-        Ok(Bench { memory, table: Table::new(), cells, service, first, majority })
+        Ok(Bench {
+            memory,
+            table: Table::new(),
+            cells,
+            service,
+            first,
+            majority,
+        })
     }
 
     fn call_memory(&mut self, heap: Global, call: &MemoryCall) -> Result<String, AnyError> {
@@ -73,7 +80,13 @@ impl Bench {
         }
     }
 
-    fn put(&mut self, heap: Global, bed: u32, round: u32, bytes: &[u8]) -> Result<String, AnyError> {
+    fn put(
+        &mut self,
+        heap: Global,
+        bed: u32,
+        round: u32,
+        bytes: &[u8],
+    ) -> Result<String, AnyError> {
         match self.service {
             ServiceKind::First => put_text(heap, &mut self.first, bed, round, bytes),
             ServiceKind::Majority => put_text(heap, &mut self.majority, bed, round, bytes),
@@ -110,7 +123,12 @@ impl Bench {
     }
 
     // What a line about the memory prints.
-    fn memory_line(&mut self, heap: Global, word: &str, rest: &[Option<&str>; 5]) -> Result<String, AnyError> {
+    fn memory_line(
+        &mut self,
+        heap: Global,
+        word: &str,
+        rest: &[Option<&str>; 5],
+    ) -> Result<String, AnyError> {
         let [a, b, c, d, e] = *rest;
         let call = match word {
             "keep" => MemoryCall::Keep(number(a)?, number(b)?, bytes(heap, c)?),
@@ -129,7 +147,13 @@ impl Bench {
     pub fn answer(&mut self, heap: Global, line: &str) -> Result<String, AnyError> {
         let mut words = line.split(' ');
         let word = words.next().unwrap_or("");
-        let rest = [words.next(), words.next(), words.next(), words.next(), words.next()];
+        let rest = [
+            words.next(),
+            words.next(),
+            words.next(),
+            words.next(),
+            words.next(),
+        ];
         let [a, b, c, _, _] = rest;
         match word {
             "table" => {

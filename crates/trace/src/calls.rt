@@ -54,7 +54,11 @@ fn all_text<M: Memory>(heap: Global, memory: &M) -> Result<String, AnyError> {
 }
 
 /// Makes a call of a memory, and says what it answers.
-pub fn memory_text<M: Memory>(heap: Global, memory: &mut M, call: &MemoryCall) -> Result<String, AnyError> {
+pub fn memory_text<M: Memory>(
+    heap: Global,
+    memory: &mut M,
+    call: &MemoryCall,
+) -> Result<String, AnyError> {
     match call {
         MemoryCall::Keep(bed, slot, bytes) => {
             let number = match memory.keep(*bed, *slot, bytes.as_slice()) {
@@ -73,7 +77,13 @@ pub fn memory_text<M: Memory>(heap: Global, memory: &mut M, call: &MemoryCall) -
 }
 
 /// Puts a proposal, and says what the service answers.
-pub fn put_text<S: DecisionService>(heap: Global, service: &mut S, bed: u32, round: u32, bytes: &[u8]) -> Result<String, AnyError> {
+pub fn put_text<S: DecisionService>(
+    heap: Global,
+    service: &mut S,
+    bed: u32,
+    round: u32,
+    bytes: &[u8],
+) -> Result<String, AnyError> {
     match service.put(bed, round, bytes) {
         Ok(PutAnswer::Taken) => Ok(format!(heap, "put taken\n")?),
         Ok(PutAnswer::Had) => Ok(format!(heap, "put had\n")?),
@@ -85,7 +95,11 @@ pub fn put_text<S: DecisionService>(heap: Global, service: &mut S, bed: u32, rou
 }
 
 /// Polls a round, and says what the service answers.
-pub fn poll_text<S: DecisionService>(heap: Global, service: &mut S, round: u32) -> Result<String, AnyError> {
+pub fn poll_text<S: DecisionService>(
+    heap: Global,
+    service: &mut S,
+    round: u32,
+) -> Result<String, AnyError> {
     match service.poll(round) {
         Ok(value) => {
             let text = hex(heap, value.as_slice())?;

@@ -4,5 +4,4 @@ ghost use Rattle.worked.specs.Worked.{Worked};
 /// Every example comes out as it was worked.
 pub fn worked_examples_hold()
     ensures { λ _. ⌜ Worked ⌝ }
-{
-}
+{}

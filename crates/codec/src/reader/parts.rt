@@ -60,7 +60,14 @@ fn read_packet_head(bytes: &[u8], beds: Beds, most: usize) -> Result<(Head, usiz
     let (bed, next) = read_head_number(bytes, MARK.len(), u32::from(beds.count()))?;
     let (round, next) = read_head_number(bytes, next, MAX_ROUND + 1)?;
     let (count, next) = read_count(bytes, next, most)?;
-    Ok((Head::Packet { bed: bed as u8, round: round as u8, count: count as u8 }, next))
+    Ok((
+        Head::Packet {
+            bed: bed as u8,
+            round: round as u8,
+            count: count as u8,
+        },
+        next,
+    ))
 }
 
 impl<'a> Reader<'a> {
@@ -69,7 +76,14 @@ impl<'a> Reader<'a> {
         ensures comes { λ r. ⌜ remaining r ≡ batchReading (beds .count) (now (bytes .entry)) ⌝ }
         ensures seen { λ r. ⌜ seenBy r ≡ [] ⌝ }
     {
-        Reader { bytes, beds, stage: Stage::BatchHead, place: 0, due: BATCH_TICKETS, seen: Tickets::new() }
+        Reader {
+            bytes,
+            beds,
+            stage: Stage::BatchHead,
+            place: 0,
+            due: BATCH_TICKETS,
+            seen: Tickets::new(),
+        }
     }
 
     /// A reader of a packet, for a group of so many beds.
@@ -77,7 +91,14 @@ impl<'a> Reader<'a> {
         ensures comes { λ r. ⌜ remaining r ≡ packetReading (beds .count) (now (bytes .entry)) ⌝ }
         ensures seen { λ r. ⌜ seenBy r ≡ [] ⌝ }
     {
-        Reader { bytes, beds, stage: Stage::PacketHead, place: 0, due: PACKET_TICKETS, seen: Tickets::new() }
+        Reader {
+            bytes,
+            beds,
+            stage: Stage::PacketHead,
+            place: 0,
+            due: PACKET_TICKETS,
+            seen: Tickets::new(),
+        }
     }
 
     /// The next part, or the first fault. The end and a fault come again at each further call.
@@ -124,7 +145,11 @@ impl<'a> Reader<'a> {
     {
         let count = match head {
             Head::Batch { count } => count,
-            Head::Packet { bed: _, round: _, count } => count,
+            Head::Packet {
+                bed: _,
+                round: _,
+                count,
+            } => count,
         };
         self.stage = Stage::List;
         self.due = usize::from(count);
@@ -149,6 +174,10 @@ impl<'a> Reader<'a> {
         self.seen.push(ticket);
         self.due -= 1;
         self.place = next;
-        Ok(Part::Ticket { offset, bytes, ticket })
+        Ok(Part::Ticket {
+            offset,
+            bytes,
+            ticket,
+        })
     }
 }

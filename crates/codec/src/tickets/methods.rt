@@ -13,8 +13,16 @@ impl Tickets {
         ensures none { λ r. ⌜ listed r ≡ [] ⌝ }
         ensures len { λ r. ⌜ r .len ≡ 0 ⌝ }
     {
-        let none = Ticket { paths: 0, origin: 0, number: 0, sheet: 0 };
-        Tickets { items: [none; PACKET_TICKETS], len: 0 }
+        let none = Ticket {
+            paths: 0,
+            origin: 0,
+            number: 0,
+            sheet: 0,
+        };
+        Tickets {
+            items: [none; PACKET_TICKETS],
+            len: 0,
+        }
     }
 
     /// The tickets, in their order.

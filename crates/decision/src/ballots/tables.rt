@@ -23,7 +23,11 @@ impl Ballots {
         ensures proposals { λ r. ⌜ ((bed round : ℕ) → boardOf r .proposal bed round ≡ None) ⌝ }
         ensures decisions { λ r. ⌜ ((round : ℕ) → boardOf r .decision round ≡ None) ⌝ }
     {
-        Ballots { beds, proposals: [None; PROPOSALS], decisions: [None; ROUNDS] }
+        Ballots {
+            beds,
+            proposals: [None; PROPOSALS],
+            decisions: [None; ROUNDS],
+        }
     }
 
     pub(crate) fn beds(&self) -> Beds
@@ -52,7 +56,12 @@ impl Ballots {
     }
 
     /// Records a proposal where there is none, and leaves the decisions alone.
-    pub(crate) fn propose(&mut self, bed: u32, round: u32, bytes: &[u8]) -> Result<PutAnswer, DecisionRefusal>
+    pub(crate) fn propose(
+        &mut self,
+        bed: u32,
+        round: u32,
+        bytes: &[u8],
+    ) -> Result<PutAnswer, DecisionRefusal>
         ensures proposes { λ r. ⌜ Proposes (boardOf (now (self .entry))) bed round (now (bytes .entry)) r (boardOf (now (self .exit))) ⌝ }
         ensures refused { λ r. ⌜ refused r (λ _. now (self .exit) ≡ now (self .entry)) ⌝ }
     {

@@ -22,7 +22,9 @@ impl FirstComer {
         ensures { λ r. ⌜ Cases r (λ s. New beds (boardOf (s .ballots))) (λ e. (e ≡ Size) × (1 ≤ beds → beds ≤ maxBeds → ⊥)) ⌝ }
     {
         match Beds::new(beds) {
-            Some(count) => Ok(FirstComer { ballots: Ballots::new(count) }),
+            Some(count) => Ok(FirstComer {
+                ballots: Ballots::new(count),
+            }),
             None => Err(DecisionRefusal::Size),
         }
     }

@@ -20,7 +20,9 @@ impl Majority {
         ensures { λ r. ⌜ Cases r (λ s. New beds (boardOf (s .ballots))) (λ e. (e ≡ Size) × (1 ≤ beds → beds ≤ maxBeds → ⊥)) ⌝ }
     {
         match Beds::new(beds) {
-            Some(count) => Ok(Majority { ballots: Ballots::new(count) }),
+            Some(count) => Ok(Majority {
+                ballots: Ballots::new(count),
+            }),
             None => Err(DecisionRefusal::Size),
         }
     }

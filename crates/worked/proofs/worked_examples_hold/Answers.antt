@@ -23,7 +23,8 @@ batches = record {
   repeated = (refl, refl, refl, refl, refl, refl, refl, refl);
   spare = (refl, refl, refl, refl, refl, refl, refl, refl);
   too-many-paths = (refl, refl, refl, refl, refl, refl, refl, refl);
-  written = refl }
+  written = refl;
+}
 
 order : Order
 unfolding standsBefore

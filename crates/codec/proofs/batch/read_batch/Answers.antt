@@ -12,6 +12,7 @@ value c = c .finish .ensures ∙ all-fresh (c .batch-reader .result) _ (c .batch
 
 pub returns : need.returns
 returns c =
-  record {
-    value = value c;
-    sound = batch-sound (c .args .beds .count) (c .args .bytes .now) (c .finish .result) (c .args .beds .most) (λ k. omega (arith, c .typed .bytes k)) (value c) }
+    record {
+      value = value c;
+      sound = batch-sound (c .args .beds .count) (c .args .bytes .now) (c .finish .result) (c .args .beds .most) (λ k. omega (arith, c .typed .bytes k)) (value c);
+    }

@@ -5,5 +5,5 @@ use Rattle.codec.proofs.number.write_number.Needs as need
 
 pub returns : need.returns
 returns c =
-  let p = c .put-number in
-  (omega arith, omega arith, omega arith, wrote-front (c .args .out .now) (form (c .args .value)) (p .last .out) (p .result) (p .ensures .next) (p .ensures .after))
+    let p = c .put-number in
+    (omega arith, omega arith, omega arith, wrote-front (c .args .out .now) (form (c .args .value)) (p .last .out) (p .result) (p .ensures .next) (p .ensures .after))

@@ -10,8 +10,8 @@ use Rattle.codec.proofs.ticket.ticket_len.Needs as need
 
 pub returns : need.returns
 returns c =
-  let l = ticket-length (c .args .ticket .now) in
-  let a = form-length _ _ (c .from .ensures) in
-  let b = form-length _ _ (c .from-2 .ensures) in
-  let d = form-length _ _ (c .from-3 .ensures) in
-  omega arith
+    let l = ticket-length (c .args .ticket .now) in
+    let a = form-length _ _ (c .from .ensures) in
+    let b = form-length _ _ (c .from-2 .ensures) in
+    let d = form-length _ _ (c .from-3 .ensures) in
+    omega arith

@@ -10,10 +10,13 @@ ticket-len-requires c κs = in-range-more (c .args .beds .count) maxBeds (c .arg
 
 pub put-ticket-requires : need.put-ticket-requires
 put-ticket-requires c κs =
-  record { ranged = in-range-more (c .args .beds .count) maxBeds (c .args .ticket .now) (c .args .beds .most) (c .in-range .ensures .0 (c .if-not-in-range .left)); room = omega arith }
+    record { ranged = in-range-more (c .args .beds .count) maxBeds (c .args .ticket .now) (c .args .beds .most) (c .in-range .ensures .0 (c .if-not-in-range .left)); room = omega arith }
 
 pub returns : need.returns
 returns c =
-  let p = c .put-ticket in
-  (c .in-range .ensures .0 (c .if-not-in-range .left), omega arith, omega arith,
-   wrote-front (c .args .out .now) (ticketBytes (c .args .ticket .now)) (p .last .out) (p .result) (p .ensures .next) (p .ensures .after))
+    let p = c .put-ticket in (
+      c .in-range .ensures .0 (c .if-not-in-range .left),
+      omega arith,
+      omega arith,
+      wrote-front (c .args .out .now) (ticketBytes (c .args .ticket .now)) (p .last .out) (p .result) (p .ensures .next) (p .ensures .after),
+    )

@@ -16,10 +16,11 @@ put-tickets-requires c κs = let l = list-length (c .args .tickets .now) in reco
 pub returns : need.returns
 unfolding listBytes
 returns c =
-  let ts = c .args .tickets .now in
-  let l = list-length ts in
-  let p = c .put-number-next in
-  let q = c .put-tickets in
-  record {
-    next = omega (arith, q .ensures .next, p .ensures .next);
-    after = put-next (c .args .out .now) (p .last .out) (q .last .out) (c .args .at) (p .result) (form (length ts)) (ticketsBytes ts) (p .ensures .after) (p .ensures .next) (q .ensures .after) (omega (arith, c .pre .room)) }
+    let ts = c .args .tickets .now in
+    let l = list-length ts in
+    let p = c .put-number-next in
+    let q = c .put-tickets in
+    record {
+      next = omega (arith, q .ensures .next, p .ensures .next);
+      after = put-next (c .args .out .now) (p .last .out) (q .last .out) (c .args .at) (p .result) (form (length ts)) (ticketsBytes ts) (p .ensures .after) (p .ensures .next) (q .ensures .after) (omega (arith, c .pre .room));
+    }

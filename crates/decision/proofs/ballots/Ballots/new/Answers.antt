@@ -9,4 +9,5 @@ pub returns : need.returns
 returns c = record {
   size = refl;
   proposals = λ bed round. empty-shows (ltb bed (c .args .beds .count) && ltb round roundCount) allProposals (proposalIndex bed round);
-  decisions = λ round. empty-shows (ltb round roundCount) roundCount round }
+  decisions = λ round. empty-shows (ltb round roundCount) roundCount round;
+}

@@ -13,15 +13,16 @@ add-count c = let f = proposers-few (boardOf (c .args .self .now)) (c .args .rou
 
 pub loop-bed-again : need.loop-bed-again
 loop-bed-again c =
-  let s = boardOf (c .args .self .now) in
-  let p = ap isSome (sym (c .proposal .ensures)) ∙ shown-some (c .proposal .result) ∙ sym (c .is-some .ensures) in
-  elim (c .if-is-some .came) [
-    then-is-some w ↦ (let m = proposers-more s (c .args .round) (c .loop-bed .bed) true (p ∙ w .if-is-some .taken) in omega (arith, w .count-is, c .loop-bed .inv))
-  | else-is-some w ↦ (let m = proposers-more s (c .args .round) (c .loop-bed .bed) false (p ∙ w .if-is-some .left) in omega (arith, w .count-is, c .loop-bed .inv)) ]
+    let s = boardOf (c .args .self .now) in
+    let p = ap isSome (sym (c .proposal .ensures)) ∙ shown-some (c .proposal .result) ∙ sym (c .is-some .ensures) in
+    elim (c .if-is-some .came) [
+      | then-is-some w ↦ (let m = proposers-more s (c .args .round) (c .loop-bed .bed) true (p ∙ w .if-is-some .taken) in omega (arith, w .count-is, c .loop-bed .inv))
+      | else-is-some w ↦ (let m = proposers-more s (c .args .round) (c .loop-bed .bed) false (p ∙ w .if-is-some .left) in omega (arith, w .count-is, c .loop-bed .inv))
+    ]
 
 pub returns : need.returns
 returns c =
-  let s = boardOf (c .args .self .now) in
-  let e : c .loop-bed .bed ≡ s .beds = omega arith in
-  let v = c .loop-bed .inv ∙ ap (proposers s (c .args .round)) e in
-  record { value = v; few = omega (arith, proposers-few s (c .args .round) (s .beds), c .args .self .now .beds .most) }
+    let s = boardOf (c .args .self .now) in
+    let e : c .loop-bed .bed ≡ s .beds = omega arith in
+    let v = c .loop-bed .inv ∙ ap (proposers s (c .args .round)) e in
+    record { value = v; few = omega (arith, proposers-few s (c .args .round) (s .beds), c .args .self .now .beds .most) }

@@ -17,3 +17,12 @@ returns-in-NotHex g c = simp (c .in-NotHex .is) (c .write-in-NotHex .ensures .sh
 
 pub returns-in-HalfPair : need.returns-in-HalfPair
 returns-in-HalfPair g c = simp (c .in-HalfPair .is) (c .write-in-HalfPair .ensures .shows)
+
+pub returns-in-NoFile : need.returns-in-NoFile
+returns-in-NoFile g c = simp (c .in-NoFile .is) (c .write-in-NoFile .ensures .shows)
+
+pub returns-in-Unread : need.returns-in-Unread
+returns-in-Unread g c = simp (c .in-Unread .is) (c .write-in-Unread .ensures .shows)
+
+pub returns-in-FewCells : need.returns-in-FewCells
+returns-in-FewCells g c = simp (c .in-FewCells .is) (c .write-in-FewCells .ensures .shows)
