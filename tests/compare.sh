@@ -13,9 +13,6 @@ tests=$(dirname "$0")
 dir=$(mktemp -d)
 trap 'rm -rf "$dir"' EXIT
 
-# Cut off the words that the format leaves free; a fault with no words at all is marked, and so differs.
-normalise() { sed -E -e 's/^((fault cause|line [0-9]+)[^:]*:) .+/\1/; t' -e 's/^((fault cause|line [0-9]+)[^:]*:).*/\1 (no words)/'; }
-
 # Put the number of the input line before each line of its answer.
 number() { awk '{ print answers + 1 ": " $0 } /^(end|fault|line) / { answers++ }'; }
 
@@ -29,7 +26,7 @@ if ! "$inspect" <"$dir/lines" >"$dir/raw"; then
     echo "$inspect did not end with status 0"
     exit 1
 fi
-normalise <"$dir/raw" | number >"$dir/said"
+bash "$tests/normalise.sh" <"$dir/raw" | number >"$dir/said"
 
 if ! diff "$dir/expected" "$dir/said" >"$dir/diff"; then
     echo "INPUT LINE: ANSWER, < expected, > said (seed $seed)"

@@ -3,12 +3,16 @@
 import re
 import sys
 from collections.abc import Iterator
+from pathlib import Path
 
+import stores
 from forms import BatchHead, End, Fault, PacketHead, Part, TicketPart, read_batch, read_packet
 
 LINE = re.compile(
     rb"(?P<letter>[bp]) (?P<n>[1-8])(?: (?P<hex>(?: *[0-9A-Fa-f]{2})* *))?"
 )
+
+IMAGE = re.compile(rb"c (?P<n>[1-8]) (?P<file>.+)", re.DOTALL)
 
 
 def words(part: Part) -> str:
@@ -38,8 +42,39 @@ def parse(line: bytes) -> tuple[str, int, bytes] | None:
     return found["letter"].decode(), int(found["n"]), bytes.fromhex(digits)
 
 
+def slots(chip: stores.Chip, n: int) -> Iterator[str]:
+    """What a chip keeps, and how many of its slots are empty."""
+    empty = 0
+    for bed in stores.BEDS:
+        for slot in stores.SLOTS:
+            data = chip.read(bed, slot)
+            if data is None:
+                empty += 1
+            else:
+                yield f"bed {bed} slot {slot} bytes {len(data)}"
+                yield from map(words, read_batch(data, n))
+    yield f"empty {empty}"
+
+
+def image(number: int, line: bytes) -> Iterator[str]:
+    """The lines that answer a line about the image in a file."""
+    found = IMAGE.fullmatch(line)
+    try:
+        if found is None:
+            raise ValueError(line)
+        cells = Path(found["file"].decode()).read_bytes()
+        chip = stores.Chip(bytearray(cells))
+    except (OSError, ValueError, stores.Refusal):
+        yield f"line {number}:"
+        return
+    yield from slots(chip, int(found["n"]))
+
+
 def answer(number: int, line: bytes) -> Iterator[str]:
     """The lines that answer the line of the given number."""
+    if line.startswith(b"c"):
+        yield from image(number, line)
+        return
     parsed = parse(line)
     if parsed is None:
         yield f"line {number}:"
