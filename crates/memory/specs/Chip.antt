@@ -22,6 +22,10 @@ markPlace = 66
 abbrev pub chipCells : ℕ
 chipCells = 17152
 
+-- a keep writes so many cells beside its bytes, the length and the mark: the number that a chip names
+abbrev pub chipNamed : ℕ
+chipNamed = 2
+
 -- the first cell of a slot
 abbrev pub start : ℕ → ℕ → ℕ
 start bed slot = slotCells * slotIndex bed slot

@@ -16,6 +16,10 @@ use Rattle.codec.proofs.Values.{value-some, value-most}
 use Rattle.memory.specs.Limits.{slotCount, slotIndex, placed}
 use Rattle.memory.specs.Meaning.{Bounded, Within}
 
+-- the number that a table names: it has no cells of its own
+abbrev pub tableNamed : ℕ
+tableNamed = 0
+
 abbrev pub tableHolds : List (Option Value) → ℕ → ℕ → Option (List ℕ)
 tableHolds slots bed slot = cond (placed bed slot) (shown (getD slots (slotIndex bed slot) None)) None
 

@@ -19,7 +19,7 @@ ghost use Rattle.std.specs.declared.option.Option.the-variants.{None};
 ghost use Rattle.std.specs.declared.result.Result.the-variants.{Ok, Err};
 ghost use Rattle.codec.specs.Limits.{maxBatchBytes};
 ghost use Rattle.memory.specs.Meaning.{InPlace, Within, behind, KeepAnswer, Keeps, Tears};
-ghost use Rattle.memory.specs.Chip.{chipCells, slotCells, start, slotHolds, chipHolds, keepPlace, keepCell, written, keepCells, tornCells, Blank};
+ghost use Rattle.memory.specs.Chip.{chipCells, slotCells, chipNamed, start, slotHolds, chipHolds, keepPlace, keepCell, written, keepCells, tornCells, Blank};
 ghost use Rattle.memory.specs.ChipBounds.{chipBounded};
 ghost use Rattle.memory.specs.declared.refusal.MemoryRefusal.the-variants.{Cells};
 use super::bytes::same;
@@ -38,6 +38,9 @@ const SLOT_CELLS: usize = 67;
 const MARK_PLACE: usize = 66;
 
 const MARK: u8 = 0xA5;
+
+// A keep writes so many cells beside its bytes: the length and the mark.
+const OWN_CELLS: usize = 2;
 
 /// A memory in cells that somebody else owns.
 #[derive(Drop)]
@@ -114,7 +117,7 @@ fn keep_place(len: usize, i: usize) -> usize
 fn write_cells(cells: &mut [u8], p: usize, bytes: &[u8], count: usize)
     requires room { ⌜ p + slotCells ≤ length (now cells) ⌝ }
     requires most { ⌜ length (now bytes) ≤ maxBatchBytes ⌝ }
-    requires count { ⌜ count ≤ length (now bytes) + 2 ⌝ }
+    requires count { ⌜ count ≤ length (now bytes) + chipNamed ⌝ }
     ensures { λ _. ⌜ now (cells .exit) ≡ written (now (cells .entry)) p (now (bytes .entry)) count ⌝ }
 {
     for i in 0..count {
@@ -138,7 +141,7 @@ fn keep_slot(cells: &mut [u8], p: usize, bytes: &[u8]) -> Result<(), MemoryRefus
             }
         }
         None => {
-            write_cells(cells, p, bytes, bytes.len() + 2);
+            write_cells(cells, p, bytes, bytes.len() + OWN_CELLS);
             Ok(())
         }
     }
@@ -153,7 +156,7 @@ fn tear_slot(cells: &mut [u8], p: usize, bytes: &[u8], at: usize, junk: u8)
     if held(cells, p).is_some() {
         return;
     }
-    let all = bytes.len() + 2;
+    let all = bytes.len() + OWN_CELLS;
     if at >= all {
         write_cells(cells, p, bytes, all);
     } else {
@@ -167,12 +170,12 @@ pub impl Memory for Chip<'_> as ChipMemory {
 
     ghost bounded = { λ c. chipBounded (now (c .cells)) (c .big) };
 
-    ghost named = { 2 };
+    ghost named = { chipNamed };
 
-    const NAMED: usize = 2;
+    const NAMED: usize = OWN_CELLS;
 
     fn named_cells() -> usize
-        ensures { λ r. ⌜ r ≡ 2 ⌝ }
+        ensures { λ r. ⌜ r ≡ chipNamed ⌝ }
     {
         Self::NAMED
     }
@@ -196,7 +199,7 @@ pub impl Memory for Chip<'_> as ChipMemory {
     }
 
     fn torn_keep(&mut self, bed: u32, slot: u32, bytes: &[u8], at: u32, junk: u8)
-        ensures tears { λ _. ⌜ Tears 2 (chipHolds (now (now (self .entry) .cells))) bed slot (now (bytes .entry)) at (chipHolds (now (now (self .exit) .cells))) ⌝ }
+        ensures tears { λ _. ⌜ Tears chipNamed (chipHolds (now (now (self .entry) .cells))) bed slot (now (bytes .entry)) at (chipHolds (now (now (self .exit) .cells))) ⌝ }
         ensures cells { λ _. ⌜ (Within bed slot (length (now (bytes .entry))) → now (now (self .exit) .cells) ≡ tornCells (now (now (self .entry) .cells)) (start bed slot) (now (bytes .entry)) at junk) ⌝ }
     {
         if !within(bed, slot, bytes.len()) {

@@ -6,7 +6,7 @@ ghost use Rattle.std.specs.declared.option.Option.the-variants.{Some, None};
 ghost use Rattle.memory.specs.Limits.{allSlots};
 ghost use Rattle.memory.specs.Meaning.{behind, Tears};
 ghost use Rattle.codec.specs.Value.{shown};
-ghost use Rattle.memory.specs.Table.{tableHolds, tableBounded};
+ghost use Rattle.memory.specs.Table.{tableHolds, tableNamed, tableBounded};
 use super::bytes::same;
 use super::limits::ALL_SLOTS;
 use super::limits::in_place;
@@ -48,12 +48,12 @@ pub impl Memory for Table as TableMemory {
 
     ghost bounded = { λ t. tableBounded (t .slots) };
 
-    ghost named = { 0 };
+    ghost named = { tableNamed };
 
     const NAMED: usize = 0;
 
     fn named_cells() -> usize
-        ensures { λ r. ⌜ r ≡ 0 ⌝ }
+        ensures { λ r. ⌜ r ≡ tableNamed ⌝ }
     {
         Self::NAMED
     }
@@ -86,7 +86,7 @@ pub impl Memory for Table as TableMemory {
     }
 
     fn torn_keep(&mut self, bed: u32, slot: u32, bytes: &[u8], at: u32, _junk: u8)
-        ensures torn { λ _. ⌜ Tears 0 (tableHolds (now (self .entry) .slots)) bed slot (now (bytes .entry)) at (tableHolds (now (self .exit) .slots)) ⌝ }
+        ensures torn { λ _. ⌜ Tears tableNamed (tableHolds (now (self .entry) .slots)) bed slot (now (bytes .entry)) at (tableHolds (now (self .exit) .slots)) ⌝ }
         ensures early { λ _. ⌜ (at < length (now (bytes .entry)) → now (self .exit) ≡ now (self .entry)) ⌝ }
     {
         if !within(bed, slot, bytes.len()) || (at as usize) < bytes.len() + Self::NAMED {

@@ -9,8 +9,9 @@ ghost use Rattle.decision.specs.Limits.{roundCount, allProposals, proposalInde
 ghost use Rattle.decision.specs.Meaning.{proposers, Enough};
 ghost use Rattle.decision.specs.Ballots.{boardOf, Proposes, lowestBelow};
 use super::Ballots;
-use super::PROPOSALS;
-use super::ROUNDS;
+use crate::limits::ALL_DECISIONS;
+use crate::limits::ALL_PROPOSALS;
+use crate::limits::ROUNDS;
 use crate::refusal::DecisionRefusal;
 use crate::service::PutAnswer;
 use codec::beds::Beds;
@@ -25,8 +26,8 @@ impl Ballots {
     {
         Ballots {
             beds,
-            proposals: [None; PROPOSALS],
-            decisions: [None; ROUNDS],
+            proposals: [None; ALL_PROPOSALS],
+            decisions: [None; ALL_DECISIONS],
         }
     }
 
@@ -52,7 +53,7 @@ impl Ballots {
         requires round { ⌜ round < roundCount ⌝ }
         ensures { λ r. ⌜ shown r ≡ boardOf (now (self .entry)) .proposal bed round ⌝ }
     {
-        self.proposals[(32 * bed + round) as usize]
+        self.proposals[(ROUNDS * bed + round) as usize]
     }
 
     /// Records a proposal where there is none, and leaves the decisions alone.
@@ -65,7 +66,7 @@ impl Ballots {
         ensures proposes { λ r. ⌜ Proposes (boardOf (now (self .entry))) bed round (now (bytes .entry)) r (boardOf (now (self .exit))) ⌝ }
         ensures refused { λ r. ⌜ refused r (λ _. now (self .exit) ≡ now (self .entry)) ⌝ }
     {
-        if bed >= u32::from(self.beds.count()) || round >= 32 {
+        if bed >= u32::from(self.beds.count()) || round >= ROUNDS {
             return Err(DecisionRefusal::Limits);
         }
         let Some(value) = Value::new(bytes) else {
@@ -75,7 +76,7 @@ impl Ballots {
         if had.is_some() {
             return Ok(PutAnswer::Had);
         }
-        self.proposals[(32 * bed + round) as usize] = Some(value);
+        self.proposals[(ROUNDS * bed + round) as usize] = Some(value);
         Ok(PutAnswer::Taken)
     }
 

@@ -10,6 +10,7 @@ ghost use Rattle.decision.specs.Ballots.{boardOf, boardBounded, orElse};
 ghost use Rattle.decision.specs.declared.refusal.DecisionRefusal.the-variants.{Size};
 use super::FirstComer;
 use crate::ballots::Ballots;
+use crate::limits::ROUNDS;
 use crate::refusal::DecisionRefusal;
 use crate::service::DecisionService;
 use crate::service::PutAnswer;
@@ -56,7 +57,7 @@ pub impl DecisionService for FirstComer as FirstComerService {
         ensures polls { λ r. ⌜ Polls (boardOf (now (self .entry) .ballots)) round r (boardOf (now (self .exit) .ballots)) ⌝ }
         ensures same { λ _. ⌜ now (self .exit) ≡ now (self .entry) ⌝ }
     {
-        if round >= 32 {
+        if round >= ROUNDS {
             return Err(DecisionRefusal::Limits);
         }
         match self.ballots.decision(round) {

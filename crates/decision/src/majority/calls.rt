@@ -8,6 +8,7 @@ ghost use Rattle.decision.specs.Ballots.{boardOf, boardBounded, MajorityPoll};
 ghost use Rattle.decision.specs.declared.refusal.DecisionRefusal.the-variants.{Size};
 use super::Majority;
 use crate::ballots::Ballots;
+use crate::limits::ROUNDS;
 use crate::refusal::DecisionRefusal;
 use crate::service::DecisionService;
 use crate::service::PutAnswer;
@@ -48,7 +49,7 @@ pub impl DecisionService for Majority as MajorityService {
         ensures polls { λ r. ⌜ Polls (boardOf (now (self .entry) .ballots)) round r (boardOf (now (self .exit) .ballots)) ⌝ }
         ensures lowest { λ _. ⌜ (round < roundCount → MajorityPoll (boardOf (now (self .entry) .ballots)) round (boardOf (now (self .exit) .ballots))) ⌝ }
     {
-        if round >= 32 {
+        if round >= ROUNDS {
             return Err(DecisionRefusal::Limits);
         }
         if let Some(value) = self.ballots.decision(round) {
