@@ -14,6 +14,7 @@ use Rattle.codec.specs.Value.{shown}
 use Rattle.codec.specs.declared.value.Value.{Value}
 use Rattle.decision.specs.Meaning.{Board, proposers, Enough}
 use Rattle.decision.specs.Ballots.{orElse, lowestBelow}
+use Rattle.decision.specs.Laws.{Proposed, EnoughLaws}
 
 -- a place shows something exactly if it has something
 pub shown-some : (o : Option Value) → isSome (shown o) ≡ isSome o
@@ -92,3 +93,41 @@ lowest-is s round (suc k) v e =
           let r = lowest-is s round k v (u .1 ∙ w) in (r .0, omega (arith, r .1), r .2))
       | inr f ↦ (k, omega arith, sym (ap (λ (x : Option (List ℕ)). orElse x (s .proposal k round)) (none-is (lowestBelow s round k) f)) ∙ e)
     ]
+
+-- ---- the laws of what is enough
+
+counted-up : (s : Board) (round k : ℕ) → proposers s round k ≤ proposers s round (suc k)
+counted-up s round k = omega arith
+
+-- where no proposal is lost, no fewer are counted
+counted-kept : (s s′ : Board) (round : ℕ) → ((bed : ℕ) → Proposed s round bed → Proposed s′ round bed) → (k : ℕ) → proposers s round k ≤ proposers s′ round k
+counted-kept s s′ round h zero = omega arith
+counted-kept s s′ round h (suc k) =
+    let r = counted-kept s s′ round h k in
+    elim (cases-bool (isSome (s .proposal k round))) [
+      | inl e ↦ (let m : proposers s round (suc k) ≡ 1 + proposers s round k = ap (λ (x : Bool). cond x 1 0 + proposers s round k) e in
+          let m′ : proposers s′ round (suc k) ≡ 1 + proposers s′ round k = ap (λ (x : Bool). cond x 1 0 + proposers s′ round k) (h k e) in
+          omega (arith, r, m, m′))
+      | inr e ↦ (let m : proposers s round (suc k) ≡ 0 + proposers s round k = ap (λ (x : Bool). cond x 1 0 + proposers s round k) e in
+          let up : proposers s′ round k ≤ proposers s′ round (suc k) = counted-up s′ round k in
+          omega (arith, r, m, up))
+    ]
+
+-- where all have proposed, all are counted
+counted-all : (s : Board) (round k : ℕ) → ((bed : ℕ) → bed < k → Proposed s round bed) → proposers s round k ≡ k
+counted-all s round zero h = refl
+counted-all s round (suc k) h =
+    let m : proposers s round (suc k) ≡ 1 + proposers s round k = ap (λ (x : Bool). cond x 1 0 + proposers s round k) (h k (omega arith)) in
+    let r = counted-all s round k (λ bed b. h bed (omega arith)) in
+    omega (arith, r, m)
+
+pub enough-laws : EnoughLaws
+unfolding Enough
+enough-laws = record {
+  one = enough-one;
+  kept = λ s s′ round n h e.
+      let c = counted-kept s s′ round h (s .beds) in
+      let same : proposers s′ round (s′ .beds) ≡ proposers s′ round (s .beds) = ap (proposers s′ round) n in
+      omega (arith, c, same, e, n);
+  all = λ s round b h. let c = counted-all s round (s .beds) h in omega (arith, c, b);
+}
