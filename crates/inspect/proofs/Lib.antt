@@ -1,5 +1,6 @@
 mod AnswerSteps
 mod Grammars
 mod HexSteps
+mod ImageSteps
 mod LineSteps
 mod SplitSteps

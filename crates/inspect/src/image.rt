@@ -4,7 +4,7 @@ ghost use Rattle.std.specs.declared.option.Option.the-variants.{Some};
 ghost use Rattle.std.specs.Of.String.{string-bytes};
 ghost use Rattle.std.specs.Vec.{made};
 ghost use Rattle.codec.specs.Chain.{mapOk};
-ghost use Rattle.inspect.specs.Image.{fileOf, slotText};
+ghost use Rattle.inspect.specs.Image.{fileOf, slotText, memoryText};
 use super::answer::parts_text;
 use super::answer::refusal_text;
 use super::fault::LineFault;
@@ -44,15 +44,20 @@ fn slot_text(
 }
 
 /// What the slots of a memory hold, for a group of so many beds, and how many are empty.
-pub fn memory_text<M: Memory>(heap: Global, memory: &M, beds: Beds) -> Result<String, AllocError> {
+pub fn memory_text<M: Memory>(heap: Global, memory: &M, beds: Beds) -> Result<String, AllocError>
+    ensures { λ r. ⌜ made r (λ s. string-bytes s ≡ memoryText (beds .count) (holds (now (memory .entry)))) ⌝ }
+{
     let mut text = String::new(heap);
     let mut empty = 0u32;
     for i in 0..ALL_SLOTS as u32 {
         let bed = i / SLOTS;
         let slot = i % SLOTS;
-        match memory.read(bed, slot) {
-            Ok(Some(bytes)) => text.push_str(slot_text(heap, bed, slot, bytes, beds)?.as_str())?,
-            _ => empty = empty.saturating_add(1),
+        let Ok(held) = memory.read(bed, slot) else {
+            unreachable()
+        };
+        match held {
+            Some(bytes) => text.push_str(slot_text(heap, bed, slot, bytes, beds)?.as_str())?,
+            None => empty += 1,
         }
     }
     text.push_str(format!(heap, "empty {empty}\n")?.as_str())?;
