@@ -14,7 +14,8 @@ use Rattle.std.specs.Options.{isSome}
 use Rattle.codec.specs.Reading.{batchReading}
 use Rattle.memory.specs.Limits.{slotCount, allSlots}
 use Rattle.memory.specs.Meaning.{Slots}
-use Rattle.inspect.specs.Answer.{row, partsText}
+use Rattle.memory.specs.Chip.{chipCells, chipHolds}
+use Rattle.inspect.specs.Answer.{row, partsText, refusalText}
 use Rattle.inspect.specs.declared.fault.LineFault.{LineFault}
 use Rattle.inspect.specs.declared.fault.LineFault.the-variants as lf
 
@@ -45,3 +46,7 @@ emptySlots m (suc k) = cond (isSome (heldAt m k)) 0 1 + emptySlots m k
 -- what a memory holds, slot by slot, and how many slots are empty
 abbrev pub memoryText : ℕ → Slots → List ℕ
 memoryText n m = slotsText n m allSlots ++ row (codes "empty " ∷ decimal (emptySlots m allSlots) ∷ [])
+
+-- what is printed for an image, on the line of this number
+abbrev pub imageText : ℕ → ℕ → List ℕ → List ℕ
+imageText number n cells = cond (ltb (length cells) chipCells) (refusalText number (lf.FewCells (length cells))) (memoryText n (chipHolds cells))

@@ -4,7 +4,7 @@ ghost use Rattle.std.specs.declared.option.Option.the-variants.{Some};
 ghost use Rattle.std.specs.Of.String.{string-bytes};
 ghost use Rattle.std.specs.Vec.{made};
 ghost use Rattle.codec.specs.Chain.{mapOk};
-ghost use Rattle.inspect.specs.Image.{fileOf, slotText, memoryText};
+ghost use Rattle.inspect.specs.Image.{fileOf, slotText, memoryText, imageText};
 use super::answer::parts_text;
 use super::answer::refusal_text;
 use super::fault::LineFault;
@@ -70,7 +70,9 @@ pub fn image_text(
     number: usize,
     cells: &mut [u8],
     beds: Beds,
-) -> Result<String, AllocError> {
+) -> Result<String, AllocError>
+    ensures { λ r. ⌜ made r (λ s. string-bytes s ≡ imageText number (beds .count) (now (cells .entry))) ⌝ }
+{
     if Chip::check(cells).is_err() {
         return refusal_text(heap, number, LineFault::FewCells(cells.len()));
     }
