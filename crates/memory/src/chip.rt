@@ -183,6 +183,7 @@ pub impl Memory for Chip<'_> as ChipMemory {
     fn keep(&mut self, bed: u32, slot: u32, bytes: &[u8]) -> Result<(), MemoryRefusal>
         ensures keeps { λ r. ⌜ Keeps (chipHolds (now (now (self .entry) .cells))) bed slot (now (bytes .entry)) r (chipHolds (now (now (self .exit) .cells))) ⌝ }
         ensures cells { λ _. ⌜ (Within bed slot (length (now (bytes .entry))) → now (now (self .exit) .cells) ≡ keepCells (now (now (self .entry) .cells)) (start bed slot) (now (bytes .entry))) ⌝ }
+        ensures outside { λ _. ⌜ ((Within bed slot (length (now (bytes .entry))) → ⊥) → now (now (self .exit) .cells) ≡ now (now (self .entry) .cells)) ⌝ }
     {
         if !within(bed, slot, bytes.len()) {
             return Err(MemoryRefusal::Limits);
@@ -201,6 +202,7 @@ pub impl Memory for Chip<'_> as ChipMemory {
     fn torn_keep(&mut self, bed: u32, slot: u32, bytes: &[u8], at: u32, junk: u8)
         ensures tears { λ _. ⌜ Tears chipNamed (chipHolds (now (now (self .entry) .cells))) bed slot (now (bytes .entry)) at (chipHolds (now (now (self .exit) .cells))) ⌝ }
         ensures cells { λ _. ⌜ (Within bed slot (length (now (bytes .entry))) → now (now (self .exit) .cells) ≡ tornCells (now (now (self .entry) .cells)) (start bed slot) (now (bytes .entry)) at junk) ⌝ }
+        ensures outside { λ _. ⌜ ((Within bed slot (length (now (bytes .entry))) → ⊥) → now (now (self .exit) .cells) ≡ now (now (self .entry) .cells)) ⌝ }
     {
         if !within(bed, slot, bytes.len()) {
             return;

@@ -20,4 +20,5 @@ returns c =
     record {
       keeps = subst (λ (l : List ℕ). Keeps (chipHolds cells) bed slot bytes r (chipHolds l)) (sym e) (chip-keeps cells bed slot bytes r (c .args .self .now .big) w a);
       cells = λ _. e;
+      outside = λ q. absurd (q w);
     }

@@ -18,4 +18,5 @@ returns c =
     record {
       tears = subst (λ (l : List ℕ). Tears 2 (chipHolds cells) bed slot bytes (c .args .at) (chipHolds l)) (sym e) (chip-tears cells bed slot bytes (c .args .at) (c .args .junk) (c .args .self .now .big) w);
       cells = λ _. e;
+      outside = λ q. absurd (q w);
     }
