@@ -14,7 +14,6 @@ SLOT_CELLS = 67
 MARK_CELL = 66
 MARK = 165
 OTHER_MARKS = (0, 1, 90, 164, 255)
-TORN_BEFORE_ALL = 3
 
 MEMORIES = ["table", "table", "chip", "chip", "chip"]
 TEARS = [(length, at) for length in (1, 2, 64, 65) for at in range(length + 4)]
@@ -81,25 +80,23 @@ class MemoryCalls:
         self.first_sent: dict[tuple[int, int], bytes] = {}
         self.memories = draw.deal(MEMORIES)
         self.tears = draw.deal(TEARS)
-        self.torn_since_all = 0
 
     def lines(self) -> Iterator[str]:
         while True:
             for _ in range(self.draw.randint(3, 7)):
                 self.move()
-                yield from self.calls(torn=6, keep=1, read=2, all=1, damage=2)
-                yield from self.calls(torn=1, keep=6, read=4, all=1, damage=3)
+                yield from self.calls(torn=6, keep=1, read=2, damage=2)
+                yield from self.calls(torn=1, keep=6, read=4, damage=3)
             yield from self.begin()
-            yield from self.calls(torn=1, keep=1, read=3, all=1, damage=2)
+            yield from self.calls(torn=1, keep=1, read=3, damage=2)
 
     def begin(self) -> Iterator[str]:
         """Leave the memory for a new one."""
-        yield from self.all()
         kind = next(self.memories)
         self.is_chip = kind == "chip"
         self.first_sent.clear()
         yield kind
-        yield from self.all()
+        yield "all"
 
     def move(self) -> None:
         """Choose three slots in a row and one anywhere."""
@@ -128,14 +125,11 @@ class MemoryCalls:
     def keep(self) -> Iterator[str]:
         bed, slot = self.bed_and_slot(self.draw.choice(self.places))
         yield f"keep {bed} {slot} {to_hex(self.data_for(bed, slot))}"
+        yield "all"
 
     def read(self) -> Iterator[str]:
         bed, slot = self.bed_and_slot(self.draw.choice(self.places))
         yield f"read {bed} {slot}"
-
-    def all(self) -> Iterator[str]:
-        self.torn_since_all = 0
-        yield "all"
 
     def torn(self) -> Iterator[str]:
         """A torn keep, mostly on a slot that is new among the few: it can change an empty one only."""
@@ -151,11 +145,9 @@ class MemoryCalls:
             data = self.data_for(bed, slot)
             at = self.end_of_tear(len(data))
         yield f"torn {bed} {slot} {at} {self.draw.junk()} {to_hex(data)}"
-        self.torn_since_all += 1
+        yield "all"
         if self.is_chip and self.draw.chance(0.2):
             yield from self.show(self.draw.choice((place, place, (place + 1) % (BEDS * SLOTS))))
-        if self.torn_since_all == TORN_BEFORE_ALL or self.draw.chance(0.2):
-            yield from self.all()
 
     def end_of_tear(self, length: int) -> int:
         """An `at` at the first or last cells of a keep, or far past them."""
