@@ -68,13 +68,13 @@ written cells p bytes (suc k) = set (written cells p bytes k) (p + keepPlace (le
 
 -- a keep into an empty slot writes all cells, and into a full one none
 unfoldable pub keepCells : List ℕ → ℕ → List ℕ → List ℕ
-keepCells cells p bytes = cond (full cells p) cells (written cells p bytes (length bytes + 2))
+keepCells cells p bytes = cond (full cells p) cells (written cells p bytes (length bytes + chipNamed))
 
 -- power fails after `at` finished cells of a keep, and the cell then under way holds the junk
 unfoldable pub tornCells : List ℕ → ℕ → List ℕ → ℕ → ℕ → List ℕ
 tornCells cells p bytes «at» junk =
     cond (full cells p) cells
-    (cond (leb (length bytes + 2) «at») (written cells p bytes (length bytes + 2))
+    (cond (leb (length bytes + chipNamed) «at») (written cells p bytes (length bytes + chipNamed))
     (set (written cells p bytes «at») (p + keepPlace (length bytes) «at») junk))
 
 -- every cell is 00
