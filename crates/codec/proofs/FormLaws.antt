@@ -1,11 +1,11 @@
 -- The laws of batches and packets, from reading and writing.
-use Rattle.std.proofs.Common.{◌≡◌, ℕ, ◌≤◌, List, length, Ok, Err, Result, sym, refl, ap, ◌∙◌}
-use Rattle.codec.specs.Limits.{max_beds, packet_tickets}
+use Rattle.std.proofs.Common.{◌≡◌, ℕ, List, length, Ok, Err, Result, sym, refl, ap, ◌∙◌}
+use Rattle.codec.specs.Limits.{packet_tickets}
 use Rattle.codec.specs.Chain.{map_ok}
 use Rattle.codec.specs.Number.{Bytes}
 use Rattle.codec.specs.Reading.{packet_head, count_of, list_reading, tickets_of}
-use Rattle.codec.specs.Batch.{batch_bytes, IsBatch, batch_of}
-use Rattle.codec.specs.Packet.{packet_bytes, SoundPacket, IsPacket, packet_of}
+use Rattle.codec.specs.Batch.{batch_bytes}
+use Rattle.codec.specs.Packet.{packet_bytes, IsPacket, packet_of}
 use Rattle.codec.specs.Laws.{BatchLaws, PacketLaws}
 use Rattle.codec.specs.declared.ticket.Ticket.{Ticket}
 use Rattle.codec.specs.declared.reader.Head.{Head}

@@ -1,15 +1,15 @@
 -- Lists, batches and packets: what is written is read again, part by part, and what is read has one form.
-use Rattle.std.proofs.Common.{◌≡◌, ℕ, zero, suc, ◌+◌, ◌-◌, ◌<◌, ◌≤◌, Bool, true, false, cond, ◌&&◌, eqb, ltb, List, [], ◌∷◌, ◌++◌, length, get_or, take, drop, Ok, Err, Decides, Result, sym, refl, ap, ◌∙◌, subst, inl, inr, true≢false, arith}
-use Rattle.std.proofs.lemmas.List.{append-nil, append_assoc, length-append, length-drop, drop_all, drop_at, take_at}
-use Rattle.std.specs.Cmp.Lexicographic.{Matches}
+use Rattle.std.proofs.Common.{◌≡◌, ℕ, zero, suc, ◌+◌, ◌-◌, ◌<◌, ◌≤◌, Bool, true, false, cond, eqb, ltb, List, [], ◌∷◌, ◌++◌, length, take, drop, Ok, Err, Result, sym, refl, ap, ◌∙◌, subst, inl, inr, true≢false, arith}
+use Rattle.std.proofs.lemmas.List.{append_assoc, length-drop, drop_all, take_at}
+use Rattle.std.specs.Cmp.Lexicographic.{pointwise}
 use Rattle.std.proofs.lemmas.Slice.Eq.{starts_is}
 use Rattle.std.proofs.lemmas.Bool.{cases_Bool, cond-true, cond-false, le-ltb, ltb-false, and_parts, eqb-true}
-use Rattle.codec.specs.Limits.{max_beds, number_end, batch_tickets, packet_tickets, max_round}
+use Rattle.codec.specs.Limits.{max_beds, batch_tickets, packet_tickets, max_round}
 use Rattle.codec.specs.Chain.{and_then, raise, map_ok}
 use Rattle.codec.specs.Number.{form, Bytes}
-use Rattle.codec.specs.Ticket.{InRange, ranged_at, ticket_at, ticket_bytes}
-use Rattle.codec.specs.TicketList.{Each, Sound, known, follows, tickets_bytes, list_bytes, count_at, next_at}
-use Rattle.codec.specs.Reading.{Reading, head, ticket, ended, faulty, head_first, ticket_first, list_reading, batch_head, packet_head, head_at, mark, marked, count_of, comes, batch_reading, packet_reading, tickets_of, parts_at}
+use Rattle.codec.specs.Ticket.{InRange, ticket_at, ticket_bytes}
+use Rattle.codec.specs.TicketList.{Sound, known, follows, tickets_bytes, list_bytes, count_at, next_at}
+use Rattle.codec.specs.Reading.{Reading, head, ticket, ended, faulty, head_first, ticket_first, list_reading, batch_head, packet_head, head_at, mark, marked, count_of, batch_reading, packet_reading, tickets_of, parts_at}
 use Rattle.codec.specs.Batch.{batch_bytes, IsBatch, batch_of}
 use Rattle.codec.specs.Packet.{packet_bytes, SoundPacket, IsPacket, packet_of}
 use Rattle.codec.specs.declared.ticket.Ticket.{Ticket}
@@ -187,7 +187,7 @@ marked_only (a ∷ b ∷ c ∷ d ∷ bs) m h =
     cc
 
 -- what it says that the bytes start with the mark
-pub starts_marked : (bs : List ℕ) (r : Bool) → length mark ≤ length bs → Matches (λ (a b : ℕ) (t : Bool). Decides t (a ≡ b)) mark (take (length mark) bs) r → r ≡ marked bs
+pub starts_marked : (bs : List ℕ) (r : Bool) → length mark ≤ length bs → r ≡ pointwise eqb mark (take (length mark) bs) → r ≡ marked bs
 starts_marked bs true h m = sym (ap marked ((starts_is Decides-eqb bs mark true m).0 refl))
 starts_marked bs false h m =
     elim (cases_Bool (marked bs)) [ inl t ↦ absurd (true≢false (sym ((starts_is Decides-eqb bs mark false m).1 (drop (length mark) bs) (marked_only bs t h)))) | inr f ↦ sym f ]

@@ -1,14 +1,12 @@
 -- Numbers: what is written is read again, and what is read has one form.
-use Rattle.std.proofs.Common.{◌≡◌, ℕ, zero, suc, ◌+◌, ◌-◌, ◌*◌, ◌/◌, ◌%◌, ◌<◌, ◌≤◌, Bool, true, false, cond, ◌&&◌, eqb, ltb, leb, ◌⊎◌, List, [], ◌∷◌, ◌++◌, length, get_or, drop, Ok, Err, Result, sym, refl, ap, ◌∙◌, subst, inl, inr, add_assoc, mod-eq_of_lt, mul_assoc, mul_comm, div-lt_iff_lt-mul, add-mul, mul-le-mul, mul-le-mul_left, mul-add, arith}
-use native.Mathlib.Nat.{add-mul-div_left, add-mul-mod_self_left, div-eq_of_lt}
+use Rattle.std.proofs.Common.{◌≡◌, ℕ, zero, suc, ◌+◌, ◌-◌, ◌*◌, ◌/◌, ◌%◌, ◌<◌, ◌≤◌, true, false, cond, ◌&&◌, eqb, ltb, List, [], ◌∷◌, ◌++◌, length, get_or, drop, Ok, Err, Result, sym, refl, ap, ◌∙◌, subst, inl, inr, mul_assoc, mul_comm, mul-le-mul, mul-add, arith}
 use Rattle.std.proofs.lemmas.List.{drop_more, drop_all}
-use Rattle.std.proofs.lemmas.Bool.{cond-true, cond-false, lt-ltb, le-ltb, cases_lt, cases_eq, and_left, and_right, ne_eqb, eq-eqb}
+use Rattle.std.proofs.lemmas.Bool.{cond-true, cond-false, lt-ltb, le-ltb, cases_lt}
 use Rattle.codec.specs.Limits.{number_bytes, number_end}
 use Rattle.codec.specs.Number.{groups, form, above, groups_at, fault_at, number_at, Bytes, group_value, Continued}
 use Rattle.codec.specs.Laws.{NumberLaws}
 use Rattle.codec.specs.declared.number.NumberCause.{NumberCause}
 use Rattle.codec.specs.declared.number.NumberCause.TheVariants.{Ends, NotShortest}
-use Rattle.codec.specs.declared.number.NumberFault.{NumberFault}
 use Rattle.codec.proofs.Chains.{ok_same, never, cond_err}
 
 -- numbers of so many groups are below this

@@ -1,5 +1,5 @@
 -- What the code reads step by step is what stands there: a fault of each step, and the values of all.
-use Rattle.std.proofs.Common.{◌≡◌, ℕ, ◌+◌, ◌<◌, ◌≤◌, Bool, true, false, cond, ◌||◌, ltb, leb, ◌⊎◌, List, length, Ok, Err, Result, sym, refl, ap, ◌∙◌, inl, inr, arith}
+use Rattle.std.proofs.Common.{◌≡◌, ℕ, ◌+◌, ◌<◌, ◌≤◌, true, false, cond, ◌||◌, ltb, leb, ◌⊎◌, List, length, Ok, Err, Result, sym, refl, ap, ◌∙◌, inl, inr, arith}
 use Rattle.std.proofs.lemmas.Bool.{cond-true, cond-false, lt-ltb, le-ltb, le-leb, lt-leb, or_from, or_left, or_right}
 use Rattle.codec.specs.Limits.{max_beds, max_paths, min_number, max_number, max_sheet, max_round, packet_tickets}
 use Rattle.codec.specs.Chain.{and_then, raise}

@@ -1,5 +1,5 @@
 -- Readers: one part handed out is one part less to come.
-use Rattle.std.proofs.Common.{◌≡◌, ℕ, zero, suc, ◌+◌, ◌-◌, ◌<◌, ◌≤◌, Bool, true, false, cond, ltb, List, [], ◌∷◌, ◌++◌, length, take, drop, Ok, Err, Result, sym, refl, ap, ◌∙◌, subst, arith, Bor}
+use Rattle.std.proofs.Common.{◌≡◌, ℕ, zero, suc, ◌-◌, ◌<◌, ◌≤◌, cond, ltb, List, [], ◌∷◌, ◌++◌, length, take, drop, Ok, Err, Result, sym, refl, ap, ◌∙◌, subst, arith, Bor}
 use Rattle.std.proofs.lemmas.List.{append-nil, append_assoc}
 use Rattle.std.proofs.lemmas.Bool.{cond-true, cond-false, lt-ltb, le-ltb}
 use Rattle.codec.specs.Limits.{packet_tickets}
@@ -9,7 +9,6 @@ use Rattle.codec.specs.Reading.{Reading, head, ticket, ended, faulty, head_first
 use Rattle.codec.specs.Chain.{map_ok}
 use Rattle.codec.specs.declared.beds.Beds.{Beds}
 use Rattle.codec.specs.declared.ticket.Ticket.{Ticket}
-use Rattle.codec.specs.declared.tickets.Tickets.{Tickets}
 use Rattle.codec.specs.declared.ticket_list.ListFault.{ListFault}
 use Rattle.codec.specs.declared.whole.WholeFault.{WholeFault}
 use Rattle.codec.specs.declared.whole.WholeFault.TheVariants as wf

@@ -1,19 +1,18 @@
 -- Tickets: what is written is read again, what is read has one form, and a form has at most eight bytes.
-use Rattle.std.proofs.Common.{◌≡◌, ℕ, ◌+◌, ◌-◌, ◌<◌, ◌≤◌, Bool, true, false, cond, ◌||◌, ltb, leb, List, [], ◌∷◌, ◌++◌, length, take, drop, Ok, Err, Result, sym, refl, ap, ◌∙◌, subst, arith}
+use Rattle.std.proofs.Common.{◌≡◌, ℕ, ◌+◌, ◌-◌, ◌<◌, ◌≤◌, false, ◌||◌, ltb, leb, List, ◌++◌, length, take, drop, Ok, Err, sym, ap, ◌∙◌, subst, arith}
 use Rattle.std.proofs.lemmas.List.{append_assoc, length-append, length-drop, take_at}
 use Rattle.std.proofs.lemmas.Bool.{cond-false, le-ltb, lt-leb, ltb-false, leb-false, or_from, or_parts}
 use Rattle.codec.specs.Limits.{max_beds, number_end, number_bytes, max_paths, min_number, max_number, max_sheet}
-use Rattle.codec.specs.Chain.{and_then, raise}
+use Rattle.codec.specs.Chain.{raise}
 use Rattle.codec.specs.Number.{form, number_at, Bytes}
 use Rattle.codec.specs.Ticket.{InRange, ranged_at, field_at, ticket_at, ticket_bytes}
 use Rattle.codec.specs.Write.{put_at}
 use Rattle.codec.specs.declared.number.NumberFault.{NumberFault}
 use Rattle.codec.specs.declared.ticket.Ticket.{Ticket}
-use Rattle.codec.specs.declared.ticket.TicketFault.{TicketFault}
 use Rattle.codec.specs.declared.ticket.TicketFault.TheVariants as tf
 use Rattle.codec.proofs.Chains.{ok_same, then_ok, then_inv, raise_ok, raise_inv, cond_err}
 use Rattle.codec.proofs.Writes.{put_next}
-use Rattle.codec.proofs.Numbers.{NumberRead, number_back, number_only, form_some, form_short, form_one, form-length}
+use Rattle.codec.proofs.Numbers.{NumberRead, number_back, number_only, form_short, form_one, form-length}
 
 -- ---- a number in a range, at any layer
 

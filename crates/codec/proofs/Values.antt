@@ -1,5 +1,5 @@
 -- A value has 1 to 65 bytes, and a row of places with none shows none.
-use Rattle.std.proofs.Common.{◌≡◌, ℕ, ◌≤◌, Bool, true, false, cond, List, length, get_or, replicate, Some, None, Option, refl, ap, inl, inr, arith}
+use Rattle.std.proofs.Common.{◌≡◌, ℕ, ◌≤◌, Bool, true, false, cond, List, length, get_or, replicate, None, Option, refl, ap, inl, inr, arith}
 use lib.ListN.{get_or-replicate}
 use Rattle.std.proofs.lemmas.List.{length-take-le, get_or_past, length-replicate}
 use Rattle.std.proofs.lemmas.Bool.{cases_lt}

@@ -1,22 +1,21 @@
 -- Batches and packets read at once: what the readers of the code answer.
-use Rattle.std.proofs.Common.{◌≡◌, ℕ, ◌≤◌, List, [], ◌∷◌, ◌++◌, length, Ok, Err, Result, sym, refl, ap, ◌∙◌, subst, arith}
+use Rattle.std.proofs.Common.{◌≡◌, ℕ, ◌≤◌, List, [], ◌++◌, length, Ok, Err, Result, sym, refl, ap, ◌∙◌, arith}
 use Rattle.codec.specs.Limits.{max_beds, packet_tickets}
-use Rattle.codec.specs.Chain.{and_then, map_ok}
+use Rattle.codec.specs.Chain.{map_ok}
 use Rattle.codec.specs.Number.{Bytes}
 use Rattle.codec.specs.Tickets.{listed}
 use Rattle.codec.specs.Reading.{Reading, head, ticket, ended, faulty, head_first, list_reading, packet_head, count_of, packet_reading, remaining, seen_by, tickets_of, Steps}
-use Rattle.codec.specs.Batch.{IsBatch, batch_of, ReadBatch}
-use Rattle.codec.specs.Packet.{IsPacket, packet_of, packet_parts, ReadPacket}
+use Rattle.codec.specs.Batch.{batch_of, ReadBatch}
+use Rattle.codec.specs.Packet.{IsPacket, packet_of, ReadPacket}
 use Rattle.codec.specs.declared.ticket.Ticket.{Ticket}
 use Rattle.codec.specs.declared.tickets.Tickets.{Tickets}
-use Rattle.codec.specs.declared.packet.Packet.{Packet}
 use Rattle.codec.specs.declared.reader.Head.{Head}
 use Rattle.codec.specs.declared.reader.Head.TheVariants as hd
 use Rattle.codec.specs.declared.reader.Part.{Part}
 use Rattle.codec.specs.declared.reader.Part.TheVariants as pt
 use Rattle.codec.specs.declared.reader.Reader.{Reader}
 use Rattle.codec.specs.declared.whole.WholeFault.{WholeFault}
-use Rattle.codec.proofs.Chains.{ok_same, never, then_ok, then_err}
+use Rattle.codec.proofs.Chains.{never, then_ok, then_err}
 use Rattle.codec.proofs.Readings.{all_of}
 use Rattle.codec.proofs.ListForms.{batch_only, batch_whole, HeadRead, packet_head_only, packet_list_only, packet_faulty, packet_begins, packet_whole}
 

@@ -1,6 +1,6 @@
 -- Writes, one after another: what they leave is one write of all their bytes.
-use Rattle.std.proofs.Common.{◌≡◌, ℕ, zero, suc, ◌+◌, ◌<◌, ◌≤◌, List, [], ◌∷◌, ◌++◌, length, take, drop, set, sym, refl, ap, ◌∙◌, subst, arith}
-use Rattle.std.proofs.lemmas.List.{append-nil, append_assoc, take-append-drop, take_at, take_more_set, drop_at, drop-drop, drop-set-lt, length-append, length-take-le, length-drop, length-set}
+use Rattle.std.proofs.Common.{◌≡◌, ℕ, ◌+◌, ◌<◌, ◌≤◌, List, [], ◌∷◌, ◌++◌, length, take, drop, set, sym, ap, ◌∙◌, arith}
+use Rattle.std.proofs.lemmas.List.{append-nil, append_assoc, take-append-drop, take_at, take_more_set, drop_at, drop-drop, drop-set-lt, length-append, length-take-le, length-drop}
 use Rattle.codec.specs.Write.{put_at}
 
 pub put_none : (was : List ℕ) (at : ℕ) → put_at was at [] ≡ was

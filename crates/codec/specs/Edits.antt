@@ -1,5 +1,5 @@
 -- Changes to a list of tickets: one more in its place, and only those that pass a test; assumes nothing.
-use Rattle.std.specs.Prelude.{Bool, true, false, cond, List, [], ◌∷◌}
+use Rattle.std.specs.Prelude.{Bool, cond, List, [], ◌∷◌}
 use Rattle.codec.specs.Ticket.{stands_before}
 use Rattle.codec.specs.declared.ticket.Ticket.{Ticket}
 

@@ -1,5 +1,5 @@
 -- The laws above the definitions, in the subject's words.
-use Rattle.std.specs.Prelude.{◌≡◌, ℕ, suc, ◌+◌, ◌<◌, ◌≤◌, Bool, true, false, ◌||◌, ◌⊎◌, List, [], ◌∷◌, ◌++◌, length, take, drop, Ok}
+use Rattle.std.specs.Prelude.{◌≡◌, ℕ, ◌+◌, ◌<◌, ◌≤◌, Bool, true, false, ◌||◌, ◌⊎◌, List, ◌++◌, length, take, drop, Ok}
 use Rattle.codec.specs.Limits.{max_beds, number_end, number_bytes, batch_tickets, max_batch_bytes, max_packet_bytes}
 use Rattle.codec.specs.Number.{form, number_at, Bytes, group_value, Continued}
 use Rattle.codec.specs.Ticket.{same_identity, stands_before, InRange}

@@ -1,5 +1,5 @@
 -- What the form of a number is, and what stands at a place of the bytes; assumes that bytes are below 256.
-use Rattle.std.specs.Prelude.{◌≡◌, ℕ, zero, suc, ◌+◌, ◌-◌, ◌*◌, ◌/◌, ◌%◌, ◌<◌, ◌≤◌, Bool, true, false, cond, ◌&&◌, List, [], ◌∷◌, ◌++◌, length, Ok, Err, Result, ◌==◌, nat_lt, slice_index}
+use Rattle.std.specs.Prelude.{ℕ, zero, suc, ◌+◌, ◌-◌, ◌*◌, ◌/◌, ◌%◌, ◌<◌, ◌≤◌, cond, ◌&&◌, List, [], ◌∷◌, length, Ok, Err, Result, ◌==◌, nat_lt, slice_index}
 use Rattle.codec.specs.Limits.{number_bytes}
 use Rattle.codec.specs.declared.number.NumberCause.{NumberCause}
 use Rattle.codec.specs.declared.number.NumberCause.TheVariants.{Ends, NotShortest}

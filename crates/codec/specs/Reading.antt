@@ -1,5 +1,5 @@
 -- What comes of bytes, part by part: head, tickets, and the end or a fault; assumes nothing.
-use Rattle.std.specs.Prelude.{◌≡◌, ℕ, zero, suc, ◌+◌, ◌-◌, ◌<◌, ◌≤◌, Bool, true, false, cond, ◌&&◌, List, [], ◌∷◌, ◌++◌, length, take, drop, Ok, Err, Result, ◌==◌, nat_lt, slice_index}
+use Rattle.std.specs.Prelude.{◌≡◌, ℕ, zero, suc, ◌+◌, ◌-◌, Bool, cond, ◌&&◌, List, [], ◌∷◌, ◌++◌, length, take, drop, Ok, Err, Result, ◌==◌, nat_lt, slice_index}
 use Rattle.codec.specs.Limits.{batch_tickets, packet_tickets, max_round}
 use Rattle.codec.specs.Chain.{and_then, raise, map_ok}
 use Rattle.codec.specs.Ticket.{ranged_at, ticket_bytes}

@@ -1,5 +1,5 @@
 -- Tickets: ranges, identity, order, byte form, and what stands at a place of the bytes; assumes nothing.
-use Rattle.std.specs.Prelude.{◌≡◌, ℕ, ◌+◌, ◌<◌, ◌≤◌, Bool, true, false, cond, ◌&&◌, ◌||◌, List, [], ◌∷◌, ◌++◌, Ok, Err, Result, ◌==◌, nat_le, nat_lt}
+use Rattle.std.specs.Prelude.{ℕ, ◌+◌, ◌<◌, ◌≤◌, Bool, cond, ◌&&◌, ◌||◌, List, ◌++◌, Ok, Err, Result, ◌==◌, nat_le, nat_lt}
 use Rattle.codec.specs.Limits.{max_paths, min_number, max_number, max_sheet}
 use Rattle.codec.specs.Chain.{and_then, raise}
 use Rattle.codec.specs.Number.{form, number_at}

@@ -1,5 +1,5 @@
 -- Lists of tickets: what makes one sound, its bytes, and what stands at a place after other tickets; assumes the laws of ticket order.
-use Rattle.std.specs.Prelude.{◌≡◌, ℕ, ◌+◌, ◌<◌, ◌≤◌, Bool, true, false, cond, not, ◌||◌, List, [], ◌∷◌, ◌++◌, length, Ok, Err, Result}
+use Rattle.std.specs.Prelude.{◌≡◌, ℕ, ◌+◌, ◌≤◌, Bool, true, false, cond, ◌||◌, List, [], ◌∷◌, ◌++◌, length, Ok, Err, Result}
 use Rattle.codec.specs.Chain.{and_then, raise}
 use Rattle.codec.specs.Number.{form}
 use Rattle.codec.specs.Ticket.{same_identity, stands_before, InRange, ranged_at, ticket_at, ticket_bytes}

@@ -1,4 +1,6 @@
 // Bytes to tickets and back: numbers, tickets, batches and packets, read and written.
+#![tactic(auto)]
+
 pub mod batch;
 pub mod beds;
 pub mod laws;

@@ -1,17 +1,16 @@
 -- From what the tables do to what a service promises.
-use Rattle.std.proofs.Common.{◌≡◌, ℕ, ◌<◌, ◌≤◌, true, false, List, length, is_some, Some, None, Ok, Err, Option, Result, sym, refl, ap, ◌∙◌, subst, inl, inr, arith}
-use Rattle.std.proofs.lemmas.Bool.{cases_eq, cases_lt, both_ways}
-use Rattle.codec.specs.Value.{value_bytes, shown}
+use Rattle.std.proofs.Common.{◌≡◌, ℕ, ◌<◌, true, List, is_some, Some, None, Ok, Err, Option, Result, sym, refl, ap, ◌∙◌, subst, inl, inr, arith}
+use Rattle.std.proofs.lemmas.Bool.{cases_eq, cases_lt}
+use Rattle.codec.specs.Value.{value_bytes}
 use Rattle.codec.specs.declared.value.Value.{Value}
 use Rattle.decision.specs.Limits.{round_count}
-use Rattle.decision.specs.Meaning.{Board, Within, Settles, Puts, PollAnswer, Polls, Enough}
+use Rattle.decision.specs.Meaning.{Board, Settles, Puts, PollAnswer, Polls, Enough}
 use Rattle.decision.specs.Ballots.{Proposes, board_of, table_proposal, lowest_below, MajorityPoll}
 use Rattle.decision.specs.declared.ballots.Ballots.{Ballots}
 use Rattle.codec.specs.declared.beds.Beds.{Beds}
 use Rattle.decision.specs.declared.refusal.DecisionRefusal.{DecisionRefusal}
 use Rattle.decision.specs.declared.refusal.DecisionRefusal.TheVariants.{Undecided, Limits}
 use Rattle.decision.specs.declared.service.PutAnswer.{PutAnswer}
-use Rattle.decision.proofs.Tallies.{none_is, some_is}
 
 -- no two answers at once
 ok_err : {A E : Type 0} (x : A) (e : E) → ◌≡◌ {A = Result A E} (Ok x) (Err e) → ⊥

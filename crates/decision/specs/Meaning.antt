@@ -1,5 +1,5 @@
 -- What a decision service means, and what each call does to that; assumes nothing of how it decides.
-use Rattle.std.specs.Prelude.{◌≡◌, ℕ, zero, suc, ◌+◌, ◌*◌, ◌<◌, ◌≤◌, Bool, true, false, cond, List, length, is_some, Some, None, Ok, Err, Option, Result, ◌≢◌}
+use Rattle.std.specs.Prelude.{◌≡◌, ℕ, zero, suc, ◌+◌, ◌*◌, ◌<◌, ◌≤◌, true, cond, List, length, is_some, Some, None, Ok, Err, Option, Result, ◌≢◌}
 use Rattle.codec.specs.Limits.{max_beds, max_batch_bytes}
 use Rattle.codec.specs.Value.{value_bytes}
 use Rattle.codec.specs.declared.value.Value.{Value}

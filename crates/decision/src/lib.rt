@@ -1,4 +1,6 @@
 // The decision service: what makes beds agree on one batch a round.
+#![tactic(auto)]
+
 mod ballots;
 pub mod first_comer;
 pub mod laws;

@@ -1,8 +1,7 @@
 -- What a keep and a torn keep do at their slot.
 use Rattle.std.proofs.Common.{◌≡◌, ℕ, ◌+◌, ◌<◌, ◌≤◌, true, false, leb, ◌⊎◌, List, length, get_or, set, Some, None, Option, Result, sym, refl, ap, ◌∙◌, subst, inl, inr, ⊎_elim, arith, length-set}
 use Rattle.std.proofs.lemmas.Bool.{cases_eq, cases_lt, cases_Bool, cond-true, cond-false, eq-eqb, le-leb, lt-leb}
-use Rattle.codec.specs.Limits.{max_beds, max_batch_bytes}
-use Rattle.memory.specs.Limits.{slot_count, slot_index, placed}
+use Rattle.codec.specs.Limits.{max_batch_bytes}
 use Rattle.memory.specs.Chip.{slot_cells, mark_place, chip_cells, start, keep_place, written, full, slot_holds, chip_holds, keep_cells, torn_cells}
 use Rattle.memory.specs.Meaning.{Within, KeepAnswer, Keeps, Tears}
 use Rattle.memory.specs.declared.refusal.MemoryRefusal.{MemoryRefusal}

@@ -1,7 +1,7 @@
 -- What the cells of a slot say of what it holds.
-use Rattle.std.proofs.Common.{◌≡◌, ℕ, ◌+◌, ◌-◌, ◌*◌, ◌<◌, ◌≤◌, min, max, Bool, true, false, cond, eqb, ltb, ◌≢◌, ◌⊎◌, List, length, get_or, take, drop, set, Some, None, Option, sym, refl, ap, ◌∙◌, subst, inl, inr, ⊎_elim, arith, length-drop, length-set, length-take, ext_get_or, rules}
-use Rattle.std.proofs.lemmas.List.{get_or-take, get_or-drop, places}
-use Rattle.std.proofs.lemmas.Bool.{cases_eq, cases_lt, cases_order, eq-eqb, ne_eqb, cond-true, cond-false, and_from, and_parts, lt-ltb, ltb-true}
+use Rattle.std.proofs.Common.{◌≡◌, ℕ, ◌+◌, ◌<◌, ◌≤◌, Bool, true, false, cond, ltb, ◌⊎◌, List, length, get_or, take, drop, Some, None, Option, refl, ap, ◌∙◌, inl, inr, ⊎_elim, arith, length-drop, length-take, ext_get_or}
+use Rattle.std.proofs.lemmas.List.{get_or-take, get_or-drop}
+use Rattle.std.proofs.lemmas.Bool.{cases_order, eq-eqb, ne_eqb, cond-true, cond-false, and_from, and_parts, lt-ltb, ltb-true}
 use Rattle.memory.specs.Meaning.{Elsewhere}
 use Rattle.codec.specs.Limits.{max_beds, max_batch_bytes}
 use Rattle.memory.specs.Limits.{slot_count, slot_index, placed}

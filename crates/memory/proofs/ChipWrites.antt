@@ -1,9 +1,8 @@
 -- What stands in each cell after the first `count` of a keep are written.
-use Rattle.std.proofs.Common.{◌≡◌, ℕ, zero, suc, ◌+◌, ◌-◌, ◌<◌, ◌≤◌, cond, eqb, leb, List, length, get_or, set, sym, refl, ap, ◌∙◌, subst, add-one, arith, length-set, get_or-set_other, get_or-set_same, rules}
+use Rattle.std.proofs.Common.{◌≡◌, ℕ, zero, suc, ◌+◌, ◌-◌, ◌<◌, ◌≤◌, eqb, leb, List, length, get_or, set, sym, refl, ap, ◌∙◌, subst, add-one, arith, length-set, get_or-set_other, get_or-set_same}
 use Rattle.std.proofs.lemmas.Bool.{cond-true, cond-false, le-leb, lt-leb, eq-eqb, ne_eqb}
-use Rattle.codec.specs.Limits.{max_beds, max_batch_bytes}
-use Rattle.memory.specs.Limits.{slot_count, slot_index, placed}
-use Rattle.memory.specs.Chip.{slot_cells, mark_place, chip_cells, keep_place, keep_cell, written}
+use Rattle.codec.specs.Limits.{max_batch_bytes}
+use Rattle.memory.specs.Chip.{slot_cells, mark_place, keep_place, keep_cell, written}
 
 -- what stands at k after a write at i
 pub hit : (l : List ℕ) (i k v : ℕ) → i < length l → k ≡ i → get_or (set l i v) k 0 ≡ v

@@ -1,5 +1,5 @@
 -- What a keep answers, by what its slot held.
-use Rattle.std.proofs.Common.{◌≡◌, ℕ, true, List, is_some, Some, None, Ok, Err, Option, sym, refl, ◌∙◌, arith, Bor}
+use Rattle.std.proofs.Common.{◌≡◌, ℕ, true, List, is_some, Some, None, Ok, Err, Option, refl, ◌∙◌, arith, Bor}
 use Rattle.memory.specs.Meaning.{KeepAnswer, behind}
 use Rattle.memory.specs.declared.refusal.MemoryRefusal.TheVariants.{Differs}
 

@@ -1,5 +1,5 @@
 -- How the cells of a chip lie, what they mean, and how a keep writes them; assumes nothing of what was in them.
-use Rattle.std.specs.Prelude.{◌≡◌, ℕ, zero, suc, ◌+◌, ◌-◌, ◌*◌, ◌<◌, ◌≤◌, min, max, Bool, cond, leb, List, length, take, drop, Some, None, Option, ◌==◌, nat_le, slice_index, slice_set}
+use Rattle.std.specs.Prelude.{◌≡◌, ℕ, zero, suc, ◌+◌, ◌-◌, ◌*◌, min, max, Bool, cond, leb, List, length, take, drop, Some, None, Option, ◌==◌, nat_le, slice_index, slice_set}
 use Rattle.codec.specs.Limits.{max_batch_bytes}
 use Rattle.memory.specs.Limits.{slot_index, placed}
 

@@ -1,10 +1,10 @@
 -- A slot of a chip holds nothing or 1 to 65 bytes, whatever its cells are; assumes that there are enough cells.
-use Rattle.std.specs.Prelude.{◌≡◌, ℕ, ◌+◌, ◌-◌, ◌*◌, ◌<◌, ◌≤◌, min, max, Bool, true, false, cond, List, length, take, drop, Some, None, Option, nat_lt, slice_index, refl}
-use Rattle.std.proofs.Common.{sym, ap, subst, ◌∙◌, arith, length-take, length-drop}
+use Rattle.std.specs.Prelude.{◌≡◌, ℕ, ◌+◌, ◌-◌, ◌≤◌, min, Bool, true, false, cond, List, length, take, drop, Some, None, Option, nat_lt, slice_index, refl}
+use Rattle.std.proofs.Common.{sym, ap, ◌∙◌, arith, length-take, length-drop}
 use Rattle.std.proofs.lemmas.Bool.{and_parts, ltb-true}
-use Rattle.codec.specs.Limits.{max_beds, max_batch_bytes}
-use Rattle.memory.specs.Limits.{slot_count, slot_index, placed}
-use Rattle.memory.specs.Meaning.{Bounded, Within}
+use Rattle.codec.specs.Limits.{max_beds}
+use Rattle.memory.specs.Limits.{slot_count, placed}
+use Rattle.memory.specs.Meaning.{Bounded}
 use Rattle.memory.specs.Chip.{chip_cells, start, counted, full, slot_holds, chip_holds}
 
 -- what a test lets through

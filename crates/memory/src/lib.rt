@@ -1,4 +1,6 @@
 // What a bed keeps over a power failure: for each bed and slot, nothing or 1 to 65 bytes.
+#![tactic(auto)]
+
 mod bytes;
 pub mod chip;
 pub mod limits;

@@ -1,4 +1,6 @@
 // Writes each number of its input in LEB128, to be compared with what another program writes.
+#![tactic(auto)]
+
 use anyhow::anyhow;
 use codec::number::{read_number, write_number};
 use std::alloc::Global;

@@ -1,4 +1,6 @@
 // The examples that were worked by hand, as one statement over the definitions that the contracts cite.
+#![tactic(auto)]
+
 ghost use Rattle.worked.specs.Worked.{Worked};
 
 /// Every example comes out as it was worked.

@@ -1,4 +1,4 @@
-use Rattle.std.proofs.Common.{◌≡◌, sym, ◌∙◌, arith}
+use Rattle.std.proofs.Common.{◌≡◌, ◌∙◌, arith}
 use Rattle.codec.specs.Chain.{map_ok}
 use Rattle.codec.specs.Tickets.{listed}
 use Rattle.codec.specs.Batch.{batch_of}
@@ -13,5 +13,5 @@ pub returns : goal.returns
 returns c =
     record {
       value = value c;
-      sound = batch_sound c.args.beds.count c.args.bytes.now c.finish.result c.args.beds.most (λ k. omega (arith, c.type-inv.bytes k)) (value c);
+      sound = batch_sound c.args.beds.count c.args.bytes.now c.finish.result c.args.beds.most (λ k. omega (arith, c.type_inv.bytes k)) (value c);
     }

@@ -1,7 +1,7 @@
-use Rattle.std.proofs.Common.{◌≡◌, ℕ, ◌+◌, ◌<◌, ◌≤◌, length, sym, refl, ap, ◌∙◌, arith}
+use Rattle.std.proofs.Common.{◌≡◌, length, ap, arith}
 use Rattle.codec.specs.Limits.{number_bytes}
-use Rattle.codec.specs.Number.{groups, form}
-use Rattle.codec.proofs.Numbers.{room, form_is, groups_more, groups_last, form_short}
+use Rattle.codec.specs.Number.{form}
+use Rattle.codec.proofs.Numbers.{form_is, groups_more, groups_last, form_short}
 use Rattle.codec.proofs.number.number_len.Goals as goal
 
 pub loop-rest-init : goal.loop-rest-init

@@ -1,8 +1,8 @@
-use Rattle.std.proofs.Common.{◌≡◌, ℕ, ◌+◌, ◌%◌, ◌<◌, ◌≤◌, List, [], ◌∷◌, length, sym, refl, ap, ◌∙◌, arith}
+use Rattle.std.proofs.Common.{ℕ, ◌+◌, ◌%◌, ◌<◌, List, length, sym, ap, ◌∙◌, arith}
 use Rattle.codec.specs.Limits.{number_bytes}
-use Rattle.codec.specs.Number.{groups, form}
+use Rattle.codec.specs.Number.{groups}
 use Rattle.codec.specs.Write.{put_at}
-use Rattle.codec.proofs.Numbers.{room, form_is, groups_more, groups_last, groups_some}
+use Rattle.codec.proofs.Numbers.{form_is, groups_more, groups_last, groups_some}
 use Rattle.codec.proofs.Writes.{put_more, put_last}
 use Rattle.codec.proofs.number.put_number.Goals as goal
 

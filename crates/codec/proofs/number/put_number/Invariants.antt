@@ -1,4 +1,4 @@
-use Rattle.std.proofs.Common.{◌≡◌, ℕ, ◌+◌, ◌<◌, ◌≤◌, length}
+use Rattle.std.proofs.Common.{◌≡◌, ℕ, ◌+◌, ◌<◌, length}
 use Rattle.codec.specs.Number.{groups, form}
 use Rattle.codec.specs.Write.{put_at}
 use Rattle.codec.proofs.Numbers.{room}

@@ -1,4 +1,4 @@
-use Rattle.std.proofs.Common.{◌≡◌, ℕ, ◌+◌, ◌-◌, ◌*◌, ◌<◌, ◌≤◌, get_or, sym, refl, ap, ◌∙◌, subst, inl, inr, arith}
+use Rattle.std.proofs.Common.{◌≡◌, ◌+◌, ◌*◌, ◌<◌, get_or, refl, inl, inr, arith}
 use Rattle.codec.proofs.Numbers.{below_next, room_next, scale_fits, read_start_at, read_start, read_ends, read_long, read_last, read_more, read_over}
 use Rattle.codec.proofs.number.read_number.Goals as goal
 
@@ -13,8 +13,8 @@ returns-then-next-bytes c =
 pub bounds-bytes-next : goal.bounds-bytes-next
 bounds-bytes-next c = c.if-next-bytes.false
 
-pub overflow-add-next : goal.overflow-add-next
-overflow-add-next c = omega arith
+pub overflow_add-next : goal.overflow_add-next
+overflow_add-next c = omega arith
 
 pub returns-then-i-gt0 : goal.returns-then-i-gt0
 returns-then-i-gt0 c =
@@ -28,11 +28,11 @@ sum_fits c =
     let f = scale_fits c.loop-i.i c.loop-i.scale (omega arith) c.loop-i.invariant.1 in
     omega arith
 
-pub overflow-mul-result : goal.overflow-mul-result
-overflow-mul-result c = let f = sum_fits c in omega arith
+pub overflow_mul-result : goal.overflow_mul-result
+overflow_mul-result c = let f = sum_fits c in omega arith
 
-pub overflow-add-result : goal.overflow-add-result
-overflow-add-result c = let f = sum_fits c in omega arith
+pub overflow_add-result : goal.overflow_add-result
+overflow_add-result c = let f = sum_fits c in omega arith
 
 pub returns-then-byte-lt128 : goal.returns-then-byte-lt128
 returns-then-byte-lt128 c =
@@ -47,16 +47,16 @@ returns-then-byte-lt128 c =
 
 -- the sum at another byte
 more_fits : (c : goal.After-from-in-loop-i) → c.loop-i.value + c.from-in-loop-i.result * c.loop-i.scale < c.loop-i.scale * 128
-more_fits c = below_next c.loop-i.value c.loop-i.scale c.from-in-loop-i.result (omega arith) (omega (arith, c.type-inv.bytes c.loop-i.next))
+more_fits c = below_next c.loop-i.value c.loop-i.scale c.from-in-loop-i.result (omega arith) (omega (arith, c.type_inv.bytes c.loop-i.next))
 
-pub overflow-mul-value : goal.overflow-mul-value
-overflow-mul-value c = let f = scale_fits c.loop-i.i c.loop-i.scale (omega arith) c.loop-i.invariant.1 in let m = more_fits c in omega arith
+pub overflow_mul-value : goal.overflow_mul-value
+overflow_mul-value c = let f = scale_fits c.loop-i.i c.loop-i.scale (omega arith) c.loop-i.invariant.1 in let m = more_fits c in omega arith
 
-pub overflow-add-value : goal.overflow-add-value
-overflow-add-value c = let f = scale_fits c.loop-i.i c.loop-i.scale (omega arith) c.loop-i.invariant.1 in let m = more_fits c in omega arith
+pub overflow_add-value : goal.overflow_add-value
+overflow_add-value c = let f = scale_fits c.loop-i.i c.loop-i.scale (omega arith) c.loop-i.invariant.1 in let m = more_fits c in omega arith
 
-pub overflow-mul-scale : goal.overflow-mul-scale
-overflow-mul-scale c = let f = scale_fits c.loop-i.i c.loop-i.scale (omega arith) c.loop-i.invariant.1 in omega arith
+pub overflow_mul-scale : goal.overflow_mul-scale
+overflow_mul-scale c = let f = scale_fits c.loop-i.i c.loop-i.scale (omega arith) c.loop-i.invariant.1 in omega arith
 
 pub loop-i-preserved : goal.loop-i-preserved
 loop-i-preserved c =

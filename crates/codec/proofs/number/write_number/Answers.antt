@@ -5,5 +5,5 @@ use Rattle.codec.proofs.number.write_number.Goals as goal
 
 pub returns : goal.returns
 returns c =
-    let p = c.put-number in
+    let p = c.put_number in
     (omega arith, omega arith, omega arith, wrote_front c.args.out.now (form c.args.value) p.new.out p.result p.ensures.next p.ensures.after)

@@ -6,4 +6,4 @@ pub returns-then-count-eq0 : goal.returns-then-count-eq0
 returns-then-count-eq0 c = follows-none c.args.ticket.now c.args.tickets.now (omega arith)
 
 pub returns : goal.returns
-returns c = c.stands-before.ensures ∙ follows_last c.args.ticket.now c.args.tickets.now (omega arith)
+returns c = c.stands_before.ensures ∙ follows_last c.args.ticket.now c.args.tickets.now (omega arith)

@@ -6,7 +6,7 @@ use Rattle.codec.specs.TicketList.{none, known, follows}
 use Rattle.codec.specs.declared.ticket.Ticket.{Ticket}
 use Rattle.codec.proofs.TicketLists.{After, after_push, after_at, sound_after, after_sound, too_many}
 use Rattle.codec.proofs.ticket_list.is_sound.Goals as goal
-use Rattle.codec.proofs.ticket_list.is_sound.Goals.{then-not-in-range-via-then-not-in-range, then-not-in-range-via-else-not-in-range+then-not-follows-last, then-not-in-range-via-else-not-in-range+else-not-follows-last+then-known}
+use Rattle.codec.proofs.ticket_list.is_sound.Goals.{then-not-in_range-via-then-not-in_range, then-not-in_range-via-else-not-in_range+then-not-follows_last, then-not-in_range-via-else-not-in_range+else-not-follows_last+then-known}
 
 pub returns-then-tickets-most : goal.returns-then-tickets-most
 returns-then-tickets-most c = (
@@ -20,8 +20,8 @@ loop-i-init c = tt
 pub bounds-tickets-i : goal.bounds-tickets-i
 bounds-tickets-i c = c.loop-i-test.true
 
-pub returns-then-not-in-range : goal.returns-then-not-in-range
-returns-then-not-in-range c =
+pub returns-then-not-in_range : goal.returns-then-not-in_range
+returns-then-not-in_range c =
     let n = c.args.beds.count in
     let ts = c.args.tickets.now in
     let i = c.loop-i.i in
@@ -29,11 +29,11 @@ returns-then-not-in-range c =
       λ e. absurd (both_ways true (sym e) refl),
       λ s.
           let a = after_at n ts i (sound_after n ts s.ranged s.rising s.apart) c.loop-i-test.true in
-          elim c.then-not-in-range.branch [
-            | then-not-in-range-via-then-not-in-range w ↦ sym w.if-not-in-range.true ∙ c.in-range.ensures.1 a.0
-            | then-not-in-range-via-else-not-in-range+then-not-follows-last w ↦
-                sym w.if-not-follows-last.true ∙ w.follows-last.ensures ∙ ap (λ (k : ℕ). follows (get_or ts i none) (take k ts)) z ∙ a.1
-            | then-not-in-range-via-else-not-in-range+else-not-follows-last+then-known w ↦
+          elim c.then-not-in_range.branch [
+            | then-not-in_range-via-then-not-in_range w ↦ sym w.if-not-in_range.true ∙ c.in_range.ensures.1 a.0
+            | then-not-in_range-via-else-not-in_range+then-not-follows_last w ↦
+                sym w.if-not-follows_last.true ∙ w.follows_last.ensures ∙ ap (λ (k : ℕ). follows (get_or ts i none) (take k ts)) z ∙ a.1
+            | then-not-in_range-via-else-not-in_range+else-not-follows_last+then-known w ↦
                 sym a.2 ∙ ap (λ (k : ℕ). known (get_or ts i none) (take k ts)) (sym z) ∙ sym w.known.ensures ∙ w.if-known.true
           ],
     )
@@ -44,8 +44,8 @@ loop-i-preserved c =
     let ts = c.args.tickets.now in
     let i = c.loop-i.i in
     let z : i - 0 ≡ i = omega arith in
-    let r : InRange n (get_or ts i none) = c.in-range.ensures.0 c.if-not-in-range.false in
-    let f : follows (get_or ts i none) (take i ts) ≡ true = ap (λ (k : ℕ). follows (get_or ts i none) (take k ts)) (sym z) ∙ sym c.follows-last.ensures ∙ c.if-not-follows-last.false in
+    let r : InRange n (get_or ts i none) = c.in_range.ensures.0 c.if-not-in_range.false in
+    let f : follows (get_or ts i none) (take i ts) ≡ true = ap (λ (k : ℕ). follows (get_or ts i none) (take k ts)) (sym z) ∙ sym c.follows_last.ensures ∙ c.if-not-follows_last.false in
     let k : known (get_or ts i none) (take i ts) ≡ false = ap (λ (k : ℕ). known (get_or ts i none) (take k ts)) (sym z) ∙ sym c.known.ensures ∙ c.if-known.false in
     subst (λ (l : List Ticket). After n [] l) (sym (take_more ts i none c.loop-i-test.true)) (after_push n [] (take i ts) (get_or ts i none) c.loop-i.invariant r f k)
 

@@ -1,4 +1,4 @@
-use Rattle.std.proofs.Common.{◌≡◌, ◌+◌, length, get_or, take, sym, ap, ◌∙◌, arith}
+use Rattle.std.proofs.Common.{◌+◌, length, get_or, take, sym, ap, ◌∙◌, arith}
 use Rattle.std.proofs.lemmas.List.{length-append}
 use Rattle.codec.specs.Limits.{max_beds}
 use Rattle.codec.specs.Ticket.{InRange, ticket_bytes}
@@ -11,8 +11,8 @@ use Rattle.codec.proofs.ticket_list.put_tickets.Goals as goal
 pub loop-ticket-init : goal.loop-ticket-init
 loop-ticket-init c = (omega arith, sym (put_none c.args.out.now c.args.at))
 
-pub put-ticket-next-requires : goal.put-ticket-next-requires
-put-ticket-next-requires c =
+pub put_ticket-next-requires : goal.put_ticket-next-requires
+put_ticket-next-requires c =
     let ts = c.args.tickets.now in
     let i = c.loop-ticket.ticket-index in
     let m = ap length (tickets_more ts i c.loop-ticket-test.true) in
@@ -28,9 +28,9 @@ loop-ticket-preserved c =
     let m = ap length e in
     let l = length-append (tickets_bytes (take i ts)) (ticket_bytes (get_or ts i none)) in
     let f = tickets_front ts (i + 1) in
-    let p = c.put-ticket-next.ensures in (
+    let p = c.put_ticket-next.ensures in (
       omega (arith, p.next, c.loop-ticket.invariant.0),
-      put_next c.args.out.now c.loop-ticket.out c.put-ticket-next.new.out c.args.at c.loop-ticket.next (tickets_bytes (take i ts)) (ticket_bytes (get_or ts i none))
+      put_next c.args.out.now c.loop-ticket.out c.put_ticket-next.new.out c.args.at c.loop-ticket.next (tickets_bytes (take i ts)) (ticket_bytes (get_or ts i none))
           c.loop-ticket.invariant.1 c.loop-ticket.invariant.0 p.after (omega (arith, c.requires.room))
           ∙ ap (put_at c.args.out.now c.args.at) (sym e),
     )

@@ -6,20 +6,20 @@ use Rattle.codec.specs.TicketList.{none, tickets_bytes}
 use Rattle.codec.proofs.ListWrites.{each_at, tickets_more, tickets_all, tickets_front, tickets_short}
 use Rattle.codec.proofs.ticket_list.tickets_len.Goals as goal
 
-pub ticket-len-len-requires : goal.ticket-len-len-requires
-ticket-len-len-requires c = each_at (InRange max_beds) c.args.tickets.now c.loop-ticket.ticket-index c.requires.ranged c.loop-ticket-test.true
+pub ticket_len-len-requires : goal.ticket_len-len-requires
+ticket_len-len-requires c = each_at (InRange max_beds) c.args.tickets.now c.loop-ticket.ticket-index c.requires.ranged c.loop-ticket-test.true
 
 -- one ticket more
-more : (c : goal.After-ticket-len-len) → c.loop-ticket.len + c.ticket-len-len.result ≡ length (tickets_bytes (take (c.loop-ticket.ticket-index + 1) c.args.tickets.now))
+more : (c : goal.After-ticket_len-len) → c.loop-ticket.len + c.ticket_len-len.result ≡ length (tickets_bytes (take (c.loop-ticket.ticket-index + 1) c.args.tickets.now))
 more c =
     let ts = c.args.tickets.now in
     let i = c.loop-ticket.ticket-index in
     let m = ap length (tickets_more ts i c.loop-ticket-test.true) in
     let l = length-append (tickets_bytes (take i ts)) (ticket_bytes (get_or ts i none)) in
-    omega (arith, c.loop-ticket.invariant, c.ticket-len-len.ensures)
+    omega (arith, c.loop-ticket.invariant, c.ticket_len-len.ensures)
 
-pub overflow-add-len : goal.overflow-add-len
-overflow-add-len c =
+pub overflow_add-len : goal.overflow_add-len
+overflow_add-len c =
     let ts = c.args.tickets.now in
     let f = tickets_front ts (c.loop-ticket.ticket-index + 1) in
     let s = tickets_short ts c.requires.ranged in

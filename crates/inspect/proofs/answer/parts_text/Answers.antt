@@ -10,8 +10,8 @@ loop-head-preserved-in-Ok-Head c =
     let s = remaining c.loop-head.reader in
     let t = remaining c.next.new.self in
     let step : s ≡ head c.in-Ok-Head.head t = search rules in
-    written len (string_bytes c.loop-head.text) (string_bytes c.push-str.new.self) c.as-str.result.now (head_text c.in-Ok-Head.head) s t (remaining c.args.reader) c.loop-head.invariant
-    c.in-ok-push-str.ensures.bytes c.as-str.ensures.value c.in-ok-head-text.ensures (ap (parts_text len) step)
+    written len (string_bytes c.loop-head.text) (string_bytes c.push_str.new.self) c.as_str.result.now (head_text c.in-Ok-Head.head) s t (remaining c.args.reader) c.loop-head.invariant
+    c.in_ok-push_str.ensures.bytes c.as_str.ensures.value c.in_ok-head_text.ensures (ap (parts_text len) step)
 
 pub loop-head-preserved : goal.loop-head-preserved
 loop-head-preserved c =
@@ -19,5 +19,5 @@ loop-head-preserved c =
     let s = remaining c.loop-head.reader in
     let t = remaining c.next.new.self in
     let step : (bs : List ℕ) × (s ≡ ticket c.in-Ok-Ticket.offset bs c.in-Ok-Ticket.ticket t) = search rules in
-    written len (string_bytes c.loop-head.text) (string_bytes c.push-str-in-Ok-Ticket.new.self) c.as-str-in-Ok-Ticket.result.now (ticket_text c.in-Ok-Ticket.offset c.in-Ok-Ticket.ticket) s t (remaining c.args.reader) c.loop-head.invariant
-    c.in-ok-push-str-2.ensures.bytes c.as-str-in-Ok-Ticket.ensures.value c.in-ok-ticket-text.ensures (ap (parts_text len) step.1)
+    written len (string_bytes c.loop-head.text) (string_bytes c.push_str-in-Ok-Ticket.new.self) c.as_str-in-Ok-Ticket.result.now (ticket_text c.in-Ok-Ticket.offset c.in-Ok-Ticket.ticket) s t (remaining c.args.reader) c.loop-head.invariant
+    c.in_ok-push_str-2.ensures.bytes c.as_str-in-Ok-Ticket.ensures.value c.in_ok-ticket_text.ensures (ap (parts_text len) step.1)

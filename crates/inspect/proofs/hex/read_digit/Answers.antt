@@ -16,9 +16,9 @@ returns-then-at-line c = record {
 
 pub returns : goal.returns
 returns c =
-    let v = c.ok-or.ensures.value in
-    let d = c.digit-value.ensures in
+    let v = c.ok_or.ensures.value in
+    let d = c.digit_value.ensures in
     record {
       value = v ∙ ap (λ (o : Option ℕ). ok_or o (lf.NotHex c.args.at)) d.value ∙ digit_other _ _ c.if-at-line.false c.if-line-at-eq32.false;
-      within = simp v (digit_below c.digit-value.result (lf.NotHex c.args.at) c.if-at-line.false d.below);
+      within = simp v (digit_below c.digit_value.result (lf.NotHex c.args.at) c.if-at-line.false d.below);
     }

@@ -8,15 +8,15 @@ pub loop-at-preserved-then-line-at-eq32 : goal.loop-at-preserved-then-line-at-eq
 loop-at-preserved-then-line-at-eq32 c =
     c.loop-at.invariant ∙ ap (after (vec_items c.loop-at.bytes)) (space_step _ _ c.loop-at-test.true c.if-line-at-eq32.true)
 
-pub returns-in-err-read-pair : goal.returns-in-err-read-pair
-returns-in-err-read-pair c =
-    let p = err_from_is_err_and c.from-residual.result c.from-residual.ensures.1 in
-    rw (p.1, p.2) (c.loop-at.invariant ∙ fault_step _ _ _ _ c.loop-at-test.true c.if-line-at-eq32.false c.in-err-read-pair.ensures.value)
+pub returns-in_err-read_pair : goal.returns-in_err-read_pair
+returns-in_err-read_pair c =
+    let p = err_from_is_err_and c.from_residual.result c.from_residual.ensures.1 in
+    rw (p.1, p.2) (c.loop-at.invariant ∙ fault_step _ _ _ _ c.loop-at-test.true c.if-line-at-eq32.false c.in_err-read_pair.ensures.value)
 
 pub loop-at-preserved : goal.loop-at-preserved
 loop-at-preserved c =
-    c.loop-at.invariant ∙ pair_step _ _ _ _ c.loop-at-test.true c.if-line-at-eq32.false c.in-ok-read-pair.ensures.value
-    ∙ ap (λ (bs : List ℕ). after bs (hex_at (c.loop-at.at + 2) (drop (c.loop-at.at + 2) c.args.line.now))) (sym c.in-ok-push.ensures.items)
+    c.loop-at.invariant ∙ pair_step _ _ _ _ c.loop-at-test.true c.if-line-at-eq32.false c.in_ok-read_pair.ensures.value
+    ∙ ap (λ (bs : List ℕ). after bs (hex_at (c.loop-at.at + 2) (drop (c.loop-at.at + 2) c.args.line.now))) (sym c.in_ok-push.ensures.items)
 
 pub returns : goal.returns
 returns c = c.loop-at.invariant ∙ hex_end _ _ _ c.loop-at-test.false

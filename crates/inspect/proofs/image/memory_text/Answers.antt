@@ -2,18 +2,18 @@ use Rattle.std.proofs.Common.{ℕ, ◌+◌, string_bytes, sym, ap, ◌∙◌, ar
 use Rattle.memory.specs.Meaning.{behind}
 use Rattle.inspect.proofs.ImageSteps.{none_yet, read_held, not_refused, text_found, text_passed, text_whole, empty_found, empty_passed, empty_few}
 use Rattle.inspect.proofs.image.memory_text.Goals as goal
-use Rattle.inspect.proofs.image.memory_text.Goals.{in-Some+in-ok-slot-text+in-ok-push-str, in-None}
+use Rattle.inspect.proofs.image.memory_text.Goals.{in-Some+in_ok-slot_text+in_ok-push_str, in-None}
 
 pub loop-i-init : goal.loop-i-init
 loop-i-init g c =
     let z = none_yet c.args.beds.count (g.M.Memory.holds c.args.memory.now) in
     (c.new-text.ensures.bytes ∙ sym z.0, sym z.1)
 
-pub overflow-add-empty : goal.overflow-add-empty
-overflow-add-empty g c = let f = empty_few (g.M.Memory.holds c.args.memory.now) c.loop-i.i in omega (arith, c.loop-i.invariant.1)
+pub overflow_add-empty : goal.overflow_add-empty
+overflow_add-empty g c = let f = empty_few (g.M.Memory.holds c.args.memory.now) c.loop-i.i in omega (arith, c.loop-i.invariant.1)
 
 pub unreachable-requires : goal.unreachable-requires
-unreachable-requires g c = not_refused (g.M.Memory.holds c.args.memory.now) c.loop-i.i _ c.in-default.field-0 c.loop-i-test.true c.read.ensures c.in-default.is
+unreachable-requires g c = not_refused (g.M.Memory.holds c.args.memory.now) c.loop-i.i _ c.in_default.field-0 c.loop-i-test.true c.read.ensures c.in_default.is
 
 pub loop-i-preserved : goal.loop-i-preserved
 loop-i-preserved g c =
@@ -22,10 +22,10 @@ loop-i-preserved g c =
     let i = c.loop-i.i in
     let r = read_held m i _ c.in-Ok.held c.loop-i-test.true c.read.ensures c.in-Ok.is in
     elim c.match-held.branch [
-      | in-Some+in-ok-slot-text+in-ok-push-str w ↦ (let h = r ∙ ap behind w.in-Some.is in (
+      | in-Some+in_ok-slot_text+in_ok-push_str w ↦ (let h = r ∙ ap behind w.in-Some.is in (
         ap string_bytes w.text-is
-            ∙ text_found n m i _ (string_bytes c.loop-i.text) _ w.as-str.result.now h c.loop-i.invariant.0 w.in-ok-push-str.ensures.bytes
-            (w.as-str.ensures.value ∙ w.in-ok-slot-text.ensures),
+            ∙ text_found n m i _ (string_bytes c.loop-i.text) _ w.as_str.result.now h c.loop-i.invariant.0 w.in_ok-push_str.ensures.bytes
+            (w.as_str.ensures.value ∙ w.in_ok-slot_text.ensures),
         w.empty-is ∙ c.loop-i.invariant.1 ∙ empty_found m i w.in-Some.bytes.now h,
       ))
       | in-None w ↦ (let h = r ∙ ap behind w.in-None.is in (
@@ -36,5 +36,5 @@ loop-i-preserved g c =
 
 pub returns : goal.returns
 returns g c =
-    text_whole c.args.beds.count (g.M.Memory.holds c.args.memory.now) c.loop-i.i c.loop-i.empty (string_bytes c.loop-i.text) _ c.as-str-2.result.now
-    (omega arith) c.loop-i.invariant.0 c.loop-i.invariant.1 c.in-ok-push-str-2.ensures.bytes (c.as-str-2.ensures.value ∙ c.in-ok-format.ensures.ok)
+    text_whole c.args.beds.count (g.M.Memory.holds c.args.memory.now) c.loop-i.i c.loop-i.empty (string_bytes c.loop-i.text) _ c.as_str-2.result.now
+    (omega arith) c.loop-i.invariant.0 c.loop-i.invariant.1 c.in_ok-push_str-2.ensures.bytes (c.as_str-2.ensures.value ∙ c.in_ok-format.ensures.ok)

@@ -4,20 +4,20 @@ use Rattle.std.proofs.lemmas.Bool.Decides.{nat_tests}
 use Rattle.inspect.proofs.LineSteps.{length_of_rest, behind-none, behind_some, beds_read}
 use Rattle.inspect.proofs.line.read_beds.Goals as goal
 
-pub returns-in-default : goal.returns-in-default
-returns-in-default c =
+pub returns-in_default : goal.returns-in_default
+returns-in_default c =
     let cs = c.args.line.now in
     grind (arith, nat_tests, get_or_past cs 1 0, get_or_past cs 2 0)
 
-pub returns-in-default-default : goal.returns-in-default-default
-returns-in-default-default c =
+pub returns-in_default-default : goal.returns-in_default-default
+returns-in_default-default c =
     let cs = c.args.line.now in
     grind (arith, nat_tests, length_of_rest cs, behind_some cs)
 
 pub returns-in-empty : goal.returns-in-empty
 returns-in-empty c =
     let cs = c.args.line.now in
-    let v = c.ok-or.ensures.value in
+    let v = c.ok_or.ensures.value in
     let behind : get_or cs 3 32 ≡ 32 = grind (arith, nat_tests, length_of_rest cs, behind-none cs, behind_some cs) in
     let space : get_or cs 1 0 ≡ 32 = grind (arith, nat_tests) in
     let low : 48 ≤ get_or cs 2 0 = grind (arith, nat_tests) in

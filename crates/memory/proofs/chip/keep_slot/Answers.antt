@@ -1,4 +1,4 @@
-use Rattle.std.proofs.Common.{◌≡◌, sym, ◌∙◌}
+use Rattle.std.proofs.Common.{sym, ◌∙◌}
 use Rattle.std.proofs.lemmas.Bool.{false≢true}
 use Rattle.memory.specs.Chip.{slot_holds}
 use Rattle.memory.proofs.KeepAnswers.{answer_fresh, answer_same, answer_differs}
@@ -29,5 +29,5 @@ returns-in-None c =
     let e = sym c.in-None.ensures in
     record {
       answer = answer_fresh (slot_holds cells c.args.p) c.args.bytes.now e;
-      cells = c.write-cells.ensures ∙ keep_none cells c.args.p c.args.bytes.now e;
+      cells = c.write_cells.ensures ∙ keep_none cells c.args.p c.args.bytes.now e;
     }

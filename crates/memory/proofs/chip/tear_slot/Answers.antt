@@ -1,11 +1,11 @@
-use Rattle.std.proofs.Common.{◌≡◌, sym, ◌∙◌, rules}
+use Rattle.std.proofs.Common.{sym, ◌∙◌, rules}
 use Rattle.memory.proofs.KeepAnswers.{lent_some}
 use Rattle.memory.proofs.ChipKeeps.{torn_some, torn_late, torn_early}
 use Rattle.memory.proofs.chip.tear_slot.Goals as goal
 
-pub returns-then-is-some : goal.returns-then-is-some
-returns-then-is-some c =
-    let v = lent_some c.held.result (sym c.if-is-some.ensures) in
+pub returns-then-is_some : goal.returns-then-is_some
+returns-then-is_some c =
+    let v = lent_some c.held.result (sym c.if-is_some.ensures) in
     torn_some c.args.cells.now c.args.p c.args.bytes.now c.args.at c.args.junk v.0 (sym c.held.ensures ∙ v.1)
 
 pub returns-then-at-all : goal.returns-then-at-all

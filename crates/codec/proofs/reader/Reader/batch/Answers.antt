@@ -1,4 +1,4 @@
-use Rattle.std.proofs.Common.{List, ap, arith}
+use Rattle.std.proofs.Common.{List, ap}
 use Rattle.codec.specs.Limits.{batch_tickets}
 use Rattle.codec.specs.Reading.{comes, batch_reading, remaining}
 use Rattle.codec.specs.declared.ticket.Ticket.{Ticket}

@@ -4,9 +4,13 @@ use Rattle.codec.proofs.value.Value.new.Goals as goal
 
 pub returns : goal.returns
 returns c =
-    let after = c.copy-from-slice.ensures.after in
-    take_at c.copy-from-slice.new.self _ _ (ap length after) ∙ after
+    let after = c.copy_from_slice.ensures.after in
+    take_at c.copy_from_slice.new.self _ _ (ap length after) ∙ after
 
-pub invariant-of-result : goal.invariant-of-result
-invariant-of-result c =
-    (simp (length-append, length-drop) (omega (arith, c.copy-from-slice.ensures.len)), (omega arith, (omega arith, tt)))
+pub invariant_of-result : goal.invariant_of-result
+invariant_of-result c =
+    record {
+      room = simp (length-append, length-drop) (omega (arith, c.copy_from_slice.ensures.len));
+      some = omega arith;
+      most = omega arith;
+    }

@@ -8,8 +8,8 @@ use Rattle.group.specs.declared.bed.BedRecord.{BedRecord}
 use Rattle.group.proofs.Hears.{step}
 use Rattle.group.proofs.bed.BedRecord.hear_tickets.Goals as goal
 
-pub hear-one-heard-requires : goal.hear-one-heard-requires
-hear-one-heard-requires c =
+pub hear_one-heard-requires : goal.hear_one-heard-requires
+hear_one-heard-requires c =
     let l = c.loop-ticket in
     record {
       set = l.invariant.1;
@@ -23,14 +23,14 @@ loop-ticket-preserved c =
     let r = c.args.self.now in
     let q = queued_in r.queue in
     let t = get_or c.args.tickets.now l.ticket-index none in
-    let s = step t l.heard l.self c.hear-one-heard.result c.hear-one-heard.new.self c.hear-one-heard.ensures.hears l.invariant.1 (omega (arith, l.invariant.2, c.requires.room)) in
+    let s = step t l.heard l.self c.hear_one-heard.result c.hear_one-heard.new.self c.hear_one-heard.ensures.hears l.invariant.1 (omega (arith, l.invariant.2, c.requires.room)) in
     let same : queued_in l.self.queue ≡ q = ap (λ (x : BedRecord). queued_in x.queue) l.invariant.4 in (
       ap (λ (h : Hearing). hear_all q h (drop (l.ticket-index + 1) c.args.tickets.now)) (s.hearing ∙ ap (λ p. hear_one p (hearing_of l.self l.heard) t) same)
           ∙ sym (at_drop_more (hear_all q (hearing_of l.self l.heard)) c.args.tickets.now l.ticket-index none c.loop-ticket-test.true) ∙ l.invariant.0,
       s.len,
       s.room ∙ l.invariant.2,
       omega (arith, s.count, l.invariant.3),
-      s.rest ∙ ap (λ (x : BedRecord). with_waiting x c.hear-one-heard.new.self.waiting) l.invariant.4,
+      s.rest ∙ ap (λ (x : BedRecord). with_waiting x c.hear_one-heard.new.self.waiting) l.invariant.4,
     )
 
 pub returns : goal.returns

@@ -7,17 +7,17 @@ use Rattle.group.specs.declared.call.Reply.TheVariants.{Sent}
 use Rattle.group.proofs.Sends.{send_refuses, send_fits}
 use Rattle.group.proofs.row.Row.send_packet.Goals as goal
 
-pub returns-in-err-len : goal.returns-in-err-len
-returns-in-err-len g c =
+pub returns-in_err-len : goal.returns-in_err-len
+returns-in_err-len g c =
     let kept = g.M.Memory.holds c.args.self.now.memory in
     let board = g.S.DecisionService.board c.args.self.now.service in
     let w = world_of c.args.self.now.table kept board in
-    let p = err_from_is_err_and c.from-residual.result c.from-residual.ensures.1 in
+    let p = err_from_is_err_and c.from_residual.result c.from_residual.ensures.1 in
     subst (λ o. SendDoes w c.args.bed c.args.room (map_ok Sent o) w) (sym (p.1 ∙ ap Err p.2))
-    (send_refuses c.args.self.now.table kept board c.args.bed c.args.room c.in-err-len.field-0.0 c.in-err-len.ensures.does)
+    (send_refuses c.args.self.now.table kept board c.args.bed c.args.room c.in_err-len.field-0.0 c.in_err-len.ensures.does)
 
 pub returns : goal.returns
 returns g c =
-    let d = c.in-ok-len.ensures in
+    let d = c.in_ok-len.ensures in
     send_fits c.args.self.now.table (g.M.Memory.holds c.args.self.now.memory) (g.S.DecisionService.board c.args.self.now.service) c.args.bed c.args.room
-    (record { bytes = c.send.new.out; len = c.in-ok-len.len }) (omega (arith, d.buffer.0, d.buffer.1)) c.if-len-room.false d.does
+    (record { bytes = c.send.new.out; len = c.in_ok-len.len }) (omega (arith, d.buffer.0, d.buffer.1)) c.if-len-room.false d.does

@@ -13,8 +13,8 @@ collect-requires c =
     let inside = in_table t i c.requires.low in
     record { set = set_bounded t i inside; queue = queue_left t i (length c.args.batch.now) inside c.requires.waits c.requires.few; left = round_left t i inside c.requires.waits }
 
-pub invariant-of-self : goal.invariant-of-self
-invariant-of-self c =
+pub invariant_of-self : goal.invariant_of-self
+invariant_of-self c =
     let t = c.args.self.now in
     let i = c.args.index in
     let inside = in_table t i c.requires.low in (

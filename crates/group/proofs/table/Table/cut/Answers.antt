@@ -4,8 +4,8 @@ use Rattle.group.specs.Table.{beds_of}
 use Rattle.group.proofs.Tables.{beds_set, table_sound}
 use Rattle.group.proofs.table.Table.cut.Goals as goal
 
-pub invariant-of-self : goal.invariant-of-self
-invariant-of-self c =
+pub invariant_of-self : goal.invariant_of-self
+invariant_of-self c =
     let t = c.args.self.now in
     (length-set t.beds c.args.index _ ∙ t.room, (table_sound t c.args.index c.off.result (c.off.ensures.sound t.size.count), tt))
 

@@ -3,8 +3,8 @@ use Rattle.std.proofs.lemmas.List.{length-set}
 use Rattle.group.proofs.Tables.{beds_set, table_sound}
 use Rattle.group.proofs.table.Table.enter.Goals as goal
 
-pub invariant-of-self : goal.invariant-of-self
-invariant-of-self c =
+pub invariant_of-self : goal.invariant_of-self
+invariant_of-self c =
     let t = c.args.self.now in
     (length-set t.beds c.args.index c.args.own ∙ t.room, (table_sound t c.args.index c.args.own c.requires.sound, tt))
 

@@ -7,18 +7,18 @@ use Rattle.group.specs.declared.call.Reply.TheVariants.{Done}
 use Rattle.group.proofs.Tables.{table_changed, table_sound, runs, refused_running, admits_running}
 use Rattle.group.proofs.table.Table.off.Goals as goal
 
-pub returns-in-err-index : goal.returns-in-err-index
-returns-in-err-index c kept board =
-    let p = err_from_is_err_and c.from-residual.result c.from-residual.ensures.1 in
-    refused_running c.args.self.now kept board c.args.bed ev.Off _ p.0 (inr refl) (ap Err p.2 ∙ c.in-err-index.ensures) (ap (map_ok (λ _. Done)) p.1)
+pub returns-in_err-index : goal.returns-in_err-index
+returns-in_err-index c kept board =
+    let p = err_from_is_err_and c.from_residual.result c.from_residual.ensures.1 in
+    refused_running c.args.self.now kept board c.args.bed ev.Off _ p.0 (inr refl) (ap Err p.2 ∙ c.in_err-index.ensures) (ap (map_ok (λ _. Done)) p.1)
 
-pub invariant-of-self : goal.invariant-of-self
-invariant-of-self c =
+pub invariant_of-self : goal.invariant_of-self
+invariant_of-self c =
     let t = c.args.self.now in
-    (length-set t.beds c.in-ok-index.index c.off.result ∙ t.room, (table_sound t c.in-ok-index.index c.off.result (c.off.ensures.sound t.size.count), tt))
+    (length-set t.beds c.in_ok-index.index c.off.result ∙ t.room, (table_sound t c.in_ok-index.index c.off.result (c.off.ensures.sound t.size.count), tt))
 
 pub returns : goal.returns
 returns c kept board =
     let t = c.args.self.now in
-    let a = admits_running t c.args.bed ev.Off c.in-ok-index.index c.in-ok-index.field-0-1 (inr refl) c.in-ok-index.ensures in
-    runs t kept board c.args.bed (Ok Done) _ a.low a.on (refl, table_changed t kept board c.args.bed c.in-ok-index.index c.off.result _ a.place a.low c.off.ensures.bed)
+    let a = admits_running t c.args.bed ev.Off c.in_ok-index.index c.in_ok-index.field-0-1 (inr refl) c.in_ok-index.ensures in
+    runs t kept board c.args.bed (Ok Done) _ a.low a.on (refl, table_changed t kept board c.args.bed c.in_ok-index.index c.off.result _ a.place a.low c.off.ensures.bed)

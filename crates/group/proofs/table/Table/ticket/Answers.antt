@@ -8,27 +8,27 @@ use Rattle.group.proofs.Tables.{queue_bounded, admits_running}
 use Rattle.group.proofs.Questions.{not_running, running, admitted-bed}
 use Rattle.group.proofs.table.Table.ticket.Goals as goal
 
-pub returns-in-err-index : goal.returns-in-err-index
-returns-in-err-index c kept board =
-    let p = err_from_is_err_and c.from-residual.result c.from-residual.ensures.1 in
-    p.1 ∙ not_running c.args.self.now kept board c.args.bed _ p.0 (ap Err p.2 ∙ c.in-err-index.ensures)
+pub returns-in_err-index : goal.returns-in_err-index
+returns-in_err-index c kept board =
+    let p = err_from_is_err_and c.from_residual.result c.from_residual.ensures.1 in
+    p.1 ∙ not_running c.args.self.now kept board c.args.bed _ p.0 (ap Err p.2 ∙ c.in_err-index.ensures)
 
 pub get-requires : goal.get-requires
 get-requires c =
     let t = c.args.self.now in
-    let on = admits_running t c.args.bed ev.Use c.in-ok-index.index c.in-ok-index.field-0-1 (inl refl) c.in-ok-index.ensures in
-    queue_bounded t c.in-ok-index.index on.inside
+    let on = admits_running t c.args.bed ev.Use c.in_ok-index.index c.in_ok-index.field-0-1 (inl refl) c.in_ok-index.ensures in
+    queue_bounded t c.in_ok-index.index on.inside
 
 pub returns-in-Some : goal.returns-in-Some
 returns-in-Some c kept board =
     let t = c.args.self.now in
-    let on = admits_running t c.args.bed ev.Use c.in-ok-index.index c.in-ok-index.field-0-1 (inl refl) c.in-ok-index.ensures in
-    let shown = admitted-bed t kept board c.args.bed c.in-ok-index.index on in
-    ap found (sym c.in-Some.is ∙ c.get.ensures ∙ ap (λ (x : Bed). slice_get x.queue c.args.place) shown) ∙ running t kept board c.args.bed _ c.in-ok-index.index on
+    let on = admits_running t c.args.bed ev.Use c.in_ok-index.index c.in_ok-index.field-0-1 (inl refl) c.in_ok-index.ensures in
+    let shown = admitted-bed t kept board c.args.bed c.in_ok-index.index on in
+    ap found (sym c.in-Some.is ∙ c.get.ensures ∙ ap (λ (x : Bed). slice_get x.queue c.args.place) shown) ∙ running t kept board c.args.bed _ c.in_ok-index.index on
 
 pub returns-in-None : goal.returns-in-None
 returns-in-None c kept board =
     let t = c.args.self.now in
-    let on = admits_running t c.args.bed ev.Use c.in-ok-index.index c.in-ok-index.field-0-1 (inl refl) c.in-ok-index.ensures in
-    let shown = admitted-bed t kept board c.args.bed c.in-ok-index.index on in
-    ap found (sym c.in-None.is ∙ c.get.ensures ∙ ap (λ (x : Bed). slice_get x.queue c.args.place) shown) ∙ running t kept board c.args.bed _ c.in-ok-index.index on
+    let on = admits_running t c.args.bed ev.Use c.in_ok-index.index c.in_ok-index.field-0-1 (inl refl) c.in_ok-index.ensures in
+    let shown = admitted-bed t kept board c.args.bed c.in_ok-index.index on in
+    ap found (sym c.in-None.is ∙ c.get.ensures ∙ ap (λ (x : Bed). slice_get x.queue c.args.place) shown) ∙ running t kept board c.args.bed _ c.in_ok-index.index on

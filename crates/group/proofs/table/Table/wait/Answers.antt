@@ -5,8 +5,8 @@ use Rattle.group.specs.Table.{beds_of, no_record}
 use Rattle.group.proofs.Tables.{fits, table_bed, beds_set, table_still_sound}
 use Rattle.group.proofs.table.Table.wait.Goals as goal
 
-pub invariant-of-self : goal.invariant-of-self
-invariant-of-self c =
+pub invariant_of-self : goal.invariant_of-self
+invariant_of-self c =
     let t = c.args.self.now in (
       length-set t.beds c.args.index _ ∙ t.room,
       (

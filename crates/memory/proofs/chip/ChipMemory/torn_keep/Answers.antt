@@ -11,8 +11,8 @@ returns c =
     let slot = c.args.slot in
     let bytes = c.args.bytes.now in
     let w = c.within.ensures.0 c.if-not-within.false in
-    let e : c.tear-slot.new.cells ≡ torn_cells cells (start bed slot) bytes c.args.at c.args.junk =
-    c.tear-slot.ensures ∙ ap (λ (k : ℕ). torn_cells cells k bytes c.args.at c.args.junk) c.slot-start.ensures.value in
+    let e : c.tear_slot.new.cells ≡ torn_cells cells (start bed slot) bytes c.args.at c.args.junk =
+    c.tear_slot.ensures ∙ ap (λ (k : ℕ). torn_cells cells k bytes c.args.at c.args.junk) c.slot_start.ensures.value in
     record {
       tears = subst (λ (l : List ℕ). Tears 2 (chip_holds cells) bed slot bytes c.args.at (chip_holds l)) (sym e) (chip_tears cells bed slot bytes c.args.at c.args.junk c.args.self.now.big w);
       cells = λ _. e;

@@ -1,4 +1,4 @@
-use Rattle.std.proofs.Common.{◌≡◌, is_some, sym, refl, ap, ◌∙◌, arith}
+use Rattle.std.proofs.Common.{is_some, sym, ap, ◌∙◌, arith}
 use Rattle.std.proofs.lemmas.Bool.{false≢true}
 use Rattle.codec.specs.Value.{value_bytes}
 use Rattle.decision.specs.Meaning.{Enough}
@@ -21,7 +21,7 @@ returns-then-not-enough c =
     let s = board_of c.args.self.now.ballots in
     let few : Enough s c.args.round → ⊥ = λ q. false≢true (sym c.if-not-enough.true ∙ c.enough.ensures.1 q) in
     record {
-      polls = poll_same s c.args.round _ (omega arith) (poll_answer_none _ (sym c.in-default.ensures)) (λ q. absurd (few q));
+      polls = poll_same s c.args.round _ (omega arith) (poll_answer_none _ (sym c.in_default.ensures)) (λ q. absurd (few q));
       lowest = λ _. majority_too_few s c.args.round few;
     }
 
@@ -31,7 +31,7 @@ returns-in-Some-lowest c =
     let s = board_of c.args.self.now.ballots in
     let s' = board_of c.decide.new.self in
     let d = c.decide.ensures in
-    let none = sym c.in-default.ensures in
+    let none = sym c.in_default.ensures in
     let q = c.enough.ensures.0 c.if-not-enough.false in
     let l = sym c.in-Some-lowest.ensures in
     let w = lowest_is s round s.beds (value_bytes c.in-Some-lowest.value) l in
