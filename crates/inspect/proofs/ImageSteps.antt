@@ -1,5 +1,5 @@
 -- One slot of an image more.
-use Rattle.std.proofs.Common.{◌≡◌, ℕ, zero, suc, ◌+◌, ◌/◌, ◌%◌, ◌<◌, ◌≤◌, Bool, cond, List, [], ◌∷◌, ◌++◌, is_some, Some, None, Ok, Err, codes, decimal, Option, Result, sym, refl, ap, ◌∙◌, append-nil, add-one, arith, Bor}
+use Rattle.std.proofs.Common.{◌≡◌, ℕ, zero, suc, ◌+◌, ◌/◌, ◌%◌, ◌<◌, ◌≤◌, cond, List, [], ◌∷◌, ◌++◌, is_some, Some, None, Ok, Err, codes, decimal, Option, Result, sym, refl, ap, ◌∙◌, append-nil, add-one, arith, Bor}
 use Rattle.memory.specs.Limits.{slot_count, all_slots}
 use Rattle.memory.specs.Meaning.{Slots, InPlace, Reads, behind}
 use Rattle.memory.specs.declared.refusal.MemoryRefusal.{MemoryRefusal}

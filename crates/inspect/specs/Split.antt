@@ -1,5 +1,5 @@
 -- The lines of a text; assumes nothing.
-use Rattle.std.specs.Prelude.{◌≡◌, ℕ, suc, ◌<◌, cond, List, [], ◌∷◌, ◌++◌, length, ◌==◌, ◌≢◌}
+use Rattle.std.specs.Prelude.{ℕ, suc, ◌<◌, cond, List, [], ◌∷◌, ◌++◌, length, ◌==◌, ◌≢◌}
 
 -- the offset of the first line feed, or the length where there is none
 abbrev pub end_of : List ℕ → ℕ

@@ -39,7 +39,7 @@ fn slot_text(
 
 /// What the slots of a memory hold, for a group of so many beds, and how many are empty.
 pub fn memory_text<M: Memory>(heap: Global, memory: &M, beds: Beds) -> Result<String, AllocError>
-    ensures { IfOk result (λ s. string_bytes s ≡ memory_text beds.count (holds memory.now)) }
+    ensures { IfOk result (λ s. string_bytes s ≡ memory_text beds.count (M.holds memory.now)) }
 {
     let mut text = String::new(heap);
     let mut empty = 0u32;

@@ -1,4 +1,6 @@
 // Reads lines that give batches, packets and images of chips, and prints what each of them comes to, part by part.
+#![tactic(auto)]
+
 mod answer;
 mod fault;
 mod hex;

@@ -1,4 +1,6 @@
 // Makes calls of one memory and one decision service, and prints what each answers.
+#![tactic(auto)]
+
 mod bench;
 mod calls;
 mod line;

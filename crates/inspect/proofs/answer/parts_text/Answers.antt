@@ -11,7 +11,7 @@ loop-head-preserved-in-Ok-Head c =
     let t = remaining c.next.new.self in
     let step : s ≡ head c.in-Ok-Head.head t = search rules in
     written len (string_bytes c.loop-head.text) (string_bytes c.push_str.new.self) c.as_str.result.now (head_text c.in-Ok-Head.head) s t (remaining c.args.reader) c.loop-head.invariant
-    c.in_ok-push_str.ensures.bytes c.as_str.ensures.value c.in_ok-head_text.ensures (ap (parts_text len) step)
+    c.in_ok-push_str-in-Ok-Head.ensures.bytes c.as_str.ensures.value c.in_ok-head_text-in-Ok-Head.ensures (ap (parts_text len) step)
 
 pub loop-head-preserved : goal.loop-head-preserved
 loop-head-preserved c =
@@ -20,4 +20,4 @@ loop-head-preserved c =
     let t = remaining c.next.new.self in
     let step : (bs : List ℕ) × (s ≡ ticket c.in-Ok-Ticket.offset bs c.in-Ok-Ticket.ticket t) = search rules in
     written len (string_bytes c.loop-head.text) (string_bytes c.push_str-in-Ok-Ticket.new.self) c.as_str-in-Ok-Ticket.result.now (ticket_text c.in-Ok-Ticket.offset c.in-Ok-Ticket.ticket) s t (remaining c.args.reader) c.loop-head.invariant
-    c.in_ok-push_str-2.ensures.bytes c.as_str-in-Ok-Ticket.ensures.value c.in_ok-ticket_text.ensures (ap (parts_text len) step.1)
+    c.in_ok-push_str-in-Ok-Ticket.ensures.bytes c.as_str-in-Ok-Ticket.ensures.value c.in_ok-ticket_text-in-Ok-Ticket.ensures (ap (parts_text len) step.1)

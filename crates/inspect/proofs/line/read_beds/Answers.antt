@@ -9,11 +9,6 @@ returns-in_default c =
     let cs = c.args.line.now in
     grind (arith, nat_tests, get_or_past cs 1 0, get_or_past cs 2 0)
 
-pub returns-in_default-default : goal.returns-in_default-default
-returns-in_default-default c =
-    let cs = c.args.line.now in
-    grind (arith, nat_tests, length_of_rest cs, behind_some cs)
-
 pub returns-in-empty : goal.returns-in-empty
 returns-in-empty c =
     let cs = c.args.line.now in
