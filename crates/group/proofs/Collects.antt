@@ -16,7 +16,7 @@ use Rattle.decision.specs.declared.refusal.DecisionRefusal.{DecisionRefusal}
 use Rattle.decision.specs.declared.refusal.DecisionRefusal.TheVariants as dr
 use Rattle.group.specs.Limits.{set_tickets, queue_tickets}
 use Rattle.group.specs.Queue.{append}
-use Rattle.group.specs.World.{Bed, World, bed, size, off_bed}
+use Rattle.group.specs.World.{Bed, World, bed, off_bed}
 use Rattle.group.specs.Outcome.{Answer, faulty}
 use Rattle.group.specs.Admission.{admitted}
 use Rattle.group.specs.Calls.{collecting, CollectDoes, Collected, collected}

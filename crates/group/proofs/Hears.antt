@@ -2,7 +2,7 @@
 use Rattle.std.proofs.Common.{◌≡◌, ℕ, ◌+◌, ◌<◌, ◌≤◌, max, cond, ltb, List, map, length, take, set, Ok, Err, sym, refl, ap, ◌∙◌, subst, inl, inr, arith, length-take-le}
 use Rattle.std.proofs.lemmas.Bool.{cases_Bool, cases_lt, cond-true, cond-false, lt-ltb, le-ltb}
 use Rattle.codec.specs.Ticket.{InRange}
-use Rattle.codec.specs.TicketList.{Each, Sound, known}
+use Rattle.codec.specs.TicketList.{Each, Sound}
 use Rattle.codec.specs.Packet.{IsPacket, packet_of}
 use Rattle.codec.specs.declared.whole.Source.TheVariants as so
 use Rattle.codec.specs.declared.whole.WholeFault.{WholeFault}

@@ -1,5 +1,5 @@
 -- Where a ticket stands in a list, and where a new one belongs.
-use Rattle.std.proofs.Common.{◌≡◌, ℕ, zero, suc, ◌+◌, ◌-◌, ◌<◌, ◌≤◌, min, Bool, true, false, cond, not, List, [], ◌∷◌, ◌++◌, length, get_or, take, drop, set, Some, None, Option, sym, refl, ap, ◌∙◌, inl, inr, add-one, arith, length-take-le, get_or-drop, take_all, get_or-take, take-take, drop-drop, drop-set-lt}
+use Rattle.std.proofs.Common.{◌≡◌, ℕ, zero, suc, ◌+◌, ◌-◌, ◌<◌, ◌≤◌, min, Bool, true, false, cond, List, [], ◌∷◌, ◌++◌, length, get_or, take, drop, set, Some, None, Option, sym, refl, ap, ◌∙◌, inl, inr, add-one, arith, length-take-le, get_or-drop, take_all, get_or-take, take-take, drop-drop, drop-set-lt}
 use lib.Seq.{take-set-le, take-set-lt, set_split}
 use Rattle.std.proofs.lemmas.List.{length-take, length-drop, append-nil, append_assoc, take_more, take_more_set, drop_more, drop_all, drop-set}
 use Rattle.std.proofs.lemmas.Option.{slice_get_past}

@@ -15,7 +15,6 @@ use Rattle.group.specs.Recovery.{queue_or, last_queue, Recovered, Recovery}
 use Rattle.group.specs.Law.{Lasting}
 use Rattle.group.specs.declared.bed.Phase.{Phase}
 use Rattle.group.specs.declared.bed.Phase.TheVariants.{Off, Idle, Waiting}
-use Rattle.group.specs.declared.call.Call.TheVariants as call
 use Rattle.group.specs.declared.call.Reply.TheVariants as rp
 use Rattle.group.proofs.Appends.{Begins}
 use Rattle.group.proofs.Delivered.{delivered_grow, delivered_more}

@@ -10,12 +10,12 @@ use Rattle.codec.specs.declared.whole.Source.TheVariants as so
 use Rattle.memory.specs.Meaning.{Slots}
 use Rattle.decision.specs.Limits.{round_count}
 use Rattle.group.specs.World.{World, Bed, bed, size, off_bed, Running, changed}
-use Rattle.group.specs.Outcome.{Answer, refused, row}
+use Rattle.group.specs.Outcome.{Answer, refused}
 use Rattle.group.specs.Calls.{ticket_of}
 use Rattle.group.specs.Delivered.{delivered}
 use Rattle.group.specs.History.{Accepted}
 use Rattle.group.specs.Validity.{heard_bytes}
-use Rattle.group.specs.declared.bed.Phase.TheVariants.{Off, Idle, Waiting}
+use Rattle.group.specs.declared.bed.Phase.TheVariants.{Off}
 use Rattle.group.specs.declared.call.Call.{Call}
 use Rattle.group.specs.declared.call.Call.TheVariants as call
 use Rattle.group.specs.declared.refusal.Refusal.{Refusal}

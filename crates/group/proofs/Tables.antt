@@ -10,7 +10,7 @@ use Rattle.codec.specs.Limits.{max_beds}
 use Rattle.memory.specs.Meaning.{Slots}
 use Rattle.decision.specs.Meaning.{Board}
 use Rattle.group.specs.Limits.{set_tickets, queue_tickets}
-use Rattle.group.specs.World.{Bed, World, bed, size, off_bed, changed}
+use Rattle.group.specs.World.{Bed, World, off_bed, changed}
 use Rattle.group.specs.Outcome.{Answer, on_running}
 use Rattle.group.specs.Record.{bed_of, BedSound, waiting_in}
 use Rattle.group.specs.Table.{beds_of, world_of, no_record, record_of, placed, admission}

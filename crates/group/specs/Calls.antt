@@ -1,7 +1,7 @@
 -- What each call that may change a group does: which refusal, or which answer, and what stands then; assumes the meanings of memory
 -- and decision service. All is determined but which proposal is decided and in which call, and what a torn keep leaves between
 -- its two limits; both come from those meanings.
-use Rattle.std.specs.Prelude.{◌≡◌, ℕ, ◌+◌, ◌<◌, ◌≤◌, max, Bool, true, cond, not, ◌||◌, ◌⊎◌, List, [], length, take, drop, set, Some, None, Ok, Err, Result, ◌≢◌, nat_lt, slice_set}
+use Rattle.std.specs.Prelude.{◌≡◌, ℕ, ◌+◌, ◌<◌, ◌≤◌, max, Bool, true, cond, not, ◌||◌, ◌⊎◌, List, [], length, take, drop, Some, None, Ok, Err, Result, ◌≢◌, nat_lt, slice_set}
 use Rattle.codec.specs.Limits.{batch_tickets}
 use Rattle.codec.specs.Ticket.{InRange}
 use Rattle.codec.specs.TicketList.{known}

@@ -1,5 +1,5 @@
 -- What stands at one moment: the beds, what is kept, and what stands at the decision service; assumes nothing.
-use Rattle.std.specs.Prelude.{◌≡◌, ℕ, List, [], length, set, slice_index_or, slice_set}
+use Rattle.std.specs.Prelude.{◌≡◌, ℕ, List, [], length, slice_index_or, slice_set}
 use Rattle.codec.specs.declared.ticket.Ticket.{Ticket}
 use Rattle.memory.specs.Meaning.{Slots}
 use Rattle.decision.specs.Meaning.{Board}

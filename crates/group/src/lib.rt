@@ -1,4 +1,6 @@
 // A group of beds that read one queue: what stands in it, what each call is to do, and the law that every run obeys.
+#![tactic(auto)]
+
 pub mod bed;
 pub mod call;
 pub mod law;

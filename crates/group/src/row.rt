@@ -36,8 +36,8 @@ impl<M: Memory, S: DecisionService> Row<M, S> {
     // A group of as many beds as the service has, all of them off.
     fn new(memory: M, service: S) -> Row<M, S>
         ensures parts { (result.memory ≡ memory) × (result.service ≡ service) }
-        ensures shown { shows holds board result ≡ made (holds memory) (board service) }
-        ensures new { Empty (holds memory) → NewBoard (board service).beds (board service) → New (shows holds board result) }
+        ensures shown { shows M.holds S.board result ≡ made (M.holds memory) (S.board service) }
+        ensures new { Empty (M.holds memory) → NewBoard (S.board service).beds (S.board service) → New (shows M.holds S.board result) }
     {
         let table = Table::new(service.beds());
         Row {
@@ -49,7 +49,7 @@ impl<M: Memory, S: DecisionService> Row<M, S> {
 
     // The batch is kept first and put then, so that whatever the service holds of a bed its memory holds too.
     fn propose(&mut self, bed: u32) -> Result<(), Refusal>
-        ensures { ProposeDoes (shows holds board self.old) bed (map_ok (λ _. Done) result) (shows holds board self.new) }
+        ensures { ProposeDoes (shows M.holds S.board self.old) bed (map_ok (λ _. Done) result) (shows M.holds S.board self.new) }
     {
         let proposal = self.table.proposal(bed, Event::Propose)?;
         let bytes = proposal.batch.as_slice();
@@ -62,7 +62,7 @@ impl<M: Memory, S: DecisionService> Row<M, S> {
 
     // A propose during which power fails after `at` finished cells of the keep; the cell then under way holds `junk`.
     fn trip(&mut self, bed: u32, at: u32, junk: u8) -> Result<(), Refusal>
-        ensures { TripDoes named (shows holds board self.old) bed at (map_ok (λ _. Done) result) (shows holds board self.new) }
+        ensures { TripDoes M.named (shows M.holds S.board self.old) bed at (map_ok (λ _. Done) result) (shows M.holds S.board self.new) }
     {
         let proposal = self.table.proposal(bed, Event::Trip)?;
         let bytes = proposal.batch.as_slice();
@@ -73,7 +73,7 @@ impl<M: Memory, S: DecisionService> Row<M, S> {
 
     // The decision of the bed's round, whosever batch it is.
     fn collect(&mut self, bed: u32) -> Result<(), Refusal>
-        ensures { CollectDoes (shows holds board self.old) bed (map_ok (λ _. Done) result) (shows holds board self.new) }
+        ensures { CollectDoes (shows M.holds S.board self.old) bed (map_ok (λ _. Done) result) (shows M.holds S.board self.new) }
     {
         let turn = self.table.turn(bed)?;
         let decision = self.service.poll(turn.round)?;
@@ -91,7 +91,7 @@ impl<M: Memory, S: DecisionService> Row<M, S> {
     fn replay(&mut self, bed: u32, own: &mut BedRecord) -> Result<Replayed, Refusal>
         requires low { bed < self.old.table.size.count }
         requires sound { StartSound own.old }
-        ensures replays { ReplaysRound self.old.table.size.count (holds self.old.memory bed) bed own.old (board self.old.service) result own.new (board self.new.service) }
+        ensures replays { ReplaysRound self.old.table.size.count (M.holds self.old.memory bed) bed own.old (S.board self.old.service) result own.new (S.board self.new.service) }
         ensures memory { self.new.memory ≡ self.old.memory }
         ensures table { self.new.table ≡ self.old.table }
     {
@@ -129,7 +129,7 @@ impl<M: Memory, S: DecisionService> Row<M, S> {
 
     // Power on: the bed goes through what it kept, round by round, and takes up its queue again.
     fn start(&mut self, bed: u32) -> Result<(), Refusal>
-        ensures { StartDoes (shows holds board self.old) bed (map_ok (λ _. Done) result) (shows holds board self.new) }
+        ensures { StartDoes (shows M.holds S.board self.old) bed (map_ok (λ _. Done) result) (shows M.holds S.board self.new) }
     {
         let index = self.table.startable(bed)?;
         let mut own = BedRecord::fresh();
@@ -146,27 +146,27 @@ impl<M: Memory, S: DecisionService> Row<M, S> {
 
 impl<M: Memory, S: DecisionService> Row<M, S> {
     fn off(&mut self, bed: u32) -> Result<(), Refusal>
-        ensures { OffDoes (shows holds board self.old) bed (map_ok (λ _. Done) result) (shows holds board self.new) }
+        ensures { OffDoes (shows M.holds S.board self.old) bed (map_ok (λ _. Done) result) (shows M.holds S.board self.new) }
     {
         self.table.off(bed)
     }
 
     fn submit(&mut self, bed: u32, number: u32, paths: u32, sheet: u32) -> Result<Receipt, Refusal>
-        ensures { SubmitDoes (shows holds board self.old) bed number paths sheet (map_ok (λ (x : Receipt). Submitted x.ticket) result) (shows holds board self.new) }
+        ensures { SubmitDoes (shows M.holds S.board self.old) bed number paths sheet (map_ok (λ (x : Receipt). Submitted x.ticket) result) (shows M.holds S.board self.new) }
     {
         let ticket = self.table.submit(bed, number, paths, sheet)?;
         Ok(Receipt::new(ticket))
     }
 
     fn send(&self, bed: u32, out: &mut [u8]) -> Result<usize, Refusal>
-        ensures does { SendDoes (shows holds board self.now) bed (length out.old) (sent_answer result out.new) (shows holds board self.now) }
+        ensures does { SendDoes (shows M.holds S.board self.now) bed (length out.old) (sent_answer result out.new) (shows M.holds S.board self.now) }
         ensures buffer { BufferAfter result out.old out.new }
     {
         self.table.send(bed, out)
     }
 
     fn hear(&mut self, bed: u32, bytes: &[u8]) -> Result<Heard, Refusal>
-        ensures { HearDoes (shows holds board self.old) bed bytes.now (map_ok HeardReply result) (shows holds board self.new) }
+        ensures { HearDoes (shows M.holds S.board self.old) bed bytes.now (map_ok HeardReply result) (shows M.holds S.board self.new) }
     {
         self.table.hear(bed, bytes)
     }
@@ -174,19 +174,19 @@ impl<M: Memory, S: DecisionService> Row<M, S> {
 
 impl<M: Memory, S: DecisionService> Row<M, S> {
     fn state(&self, bed: u32) -> Result<State, Refusal>
-        ensures { result ≡ state_answer (shows holds board self.now) bed }
+        ensures { result ≡ state_answer (shows M.holds S.board self.now) bed }
     {
         self.table.state(bed)
     }
 
     fn ticket(&self, bed: u32, place: u32) -> Result<Ticket, Refusal>
-        ensures { result ≡ ticket_answer (shows holds board self.now) bed place }
+        ensures { result ≡ ticket_answer (shows M.holds S.board self.now) bed place }
     {
         self.table.ticket(bed, place)
     }
 
     fn redeem(&self, receipt: Receipt) -> Result<Redeemed, Unredeemed>
-        ensures { result ≡ redeemed (redeem_answer (shows holds board self.now) receipt.ticket) receipt }
+        ensures { result ≡ redeemed (redeem_answer (shows M.holds S.board self.now) receipt.ticket) receipt }
     {
         let standing = match self.table.standing(receipt.ticket()) {
             Ok(standing) => standing,
@@ -209,7 +209,7 @@ impl<M: Memory, S: DecisionService> Row<M, S> {
 impl<M: Memory, S: DecisionService> Row<M, S> {
     // Sends into a packet of its own, with so much room.
     fn send_packet(&self, bed: u32, room: usize) -> Result<SentPacket, Refusal>
-        ensures { SendDoes (shows holds board self.now) bed room (map_ok Sent result) (shows holds board self.now) }
+        ensures { SendDoes (shows M.holds S.board self.now) bed room (map_ok Sent result) (shows M.holds S.board self.now) }
     {
         let mut bytes = [0; MAX_PACKET_BYTES];
         let len = self.send(bed, &mut bytes)?;
@@ -221,7 +221,7 @@ impl<M: Memory, S: DecisionService> Row<M, S> {
 
     // Makes one call.
     fn perform(&mut self, call: &Call<'_>) -> Result<Reply, Refusal>
-        ensures { Does named (shows holds board self.old) call.now result (shows holds board self.new) }
+        ensures { Does M.named (shows M.holds S.board self.old) call.now result (shows M.holds S.board self.new) }
     {
         match call {
             Call::Start { bed } => {
@@ -272,7 +272,7 @@ impl<M: Memory, S: DecisionService> Row<M, S> {
         calls: &[Call<'_>],
         answers: &mut [Result<Reply, Refusal>],
     ) -> Result<(), Refusal>
-        ensures { Runs named (shows holds board self.old) calls.now answers.old result answers.new (shows holds board self.new) }
+        ensures { Runs M.named (shows M.holds S.board self.old) calls.now answers.old result answers.new (shows M.holds S.board self.new) }
     {
         if answers.len() < calls.len() {
             return Err(Refusal::NoRoom);

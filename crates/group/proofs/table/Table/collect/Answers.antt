@@ -17,10 +17,10 @@ pub invariant_of-self : goal.invariant_of-self
 invariant_of-self c =
     let t = c.args.self.now in
     let i = c.args.index in
-    let inside = in_table t i c.requires.low in (
-      length-set t.beds i _ ∙ t.room,
-      (table_still_sound t i _ inside (collected_sound t.size.count c.args.batch.now _ c.collect.new.self c.collect.ensures.collects (round_left t i inside c.requires.waits) c.requires.few), tt),
-    )
+    let inside = in_table t i c.requires.low in record {
+      room = length-set t.beds i _ ∙ t.room;
+      sound = table_still_sound t i _ inside (collected_sound t.size.count c.args.batch.now _ c.collect.new.self c.collect.ensures.collects (round_left t i inside c.requires.waits) c.requires.few);
+    }
 
 pub returns : goal.returns
 returns c =

@@ -59,10 +59,10 @@ invariant_of-self c =
     let read : c.read_packet.result ≡ Ok p = raised_ok _ c.read_packet.result p (sym c.sited.ensures ∙ c.in_ok-packet.was) in
     let packet : IsPacket t.size.count c.args.bytes.now p.bed p.round (listed p.tickets) = subst (ReadPacket t.size.count c.args.bytes.now) read c.read_packet.ensures.sound in
     let all : HearsAll (listed p.tickets) c.hear_round.new.self c.hear_tickets.result c.hear_tickets.new.self =
-    subst (λ ts. HearsAll ts c.hear_round.new.self c.hear_tickets.result c.hear_tickets.new.self) c.as_slice.ensures c.hear_tickets.ensures.hears in (
-      length-set t.beds i c.hear_tickets.new.self ∙ t.room,
-      (table_still_sound t i c.hear_tickets.new.self on.inside (heard_sound t.size.count _ (listed p.tickets) (record_of t i) c.hear_round.new.self c.hear_tickets.result c.hear_tickets.new.self c.hear_round.ensures all packet.sound.sound.ranged), tt),
-    )
+    subst (λ ts. HearsAll ts c.hear_round.new.self c.hear_tickets.result c.hear_tickets.new.self) c.as_slice.ensures c.hear_tickets.ensures.hears in record {
+      room = length-set t.beds i c.hear_tickets.new.self ∙ t.room;
+      sound = table_still_sound t i c.hear_tickets.new.self on.inside (heard_sound t.size.count _ (listed p.tickets) (record_of t i) c.hear_round.new.self c.hear_tickets.result c.hear_tickets.new.self c.hear_round.ensures all packet.sound.sound.ranged);
+    }
 
 pub returns : goal.returns
 returns c kept board =

@@ -15,7 +15,7 @@ returns-in_err-index c kept board =
 pub invariant_of-self : goal.invariant_of-self
 invariant_of-self c =
     let t = c.args.self.now in
-    (length-set t.beds c.in_ok-index.index c.off.result ∙ t.room, (table_sound t c.in_ok-index.index c.off.result (c.off.ensures.sound t.size.count), tt))
+    record { room = length-set t.beds c.in_ok-index.index c.off.result ∙ t.room; sound = table_sound t c.in_ok-index.index c.off.result (c.off.ensures.sound t.size.count) }
 
 pub returns : goal.returns
 returns c kept board =

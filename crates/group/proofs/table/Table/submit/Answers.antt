@@ -38,10 +38,10 @@ invariant_of-self c =
     let job = ticket_of c.args.bed c.args.number c.args.paths c.args.sheet in
     let on = admits_running t c.args.bed ev.Use i c.in_ok-index.field-0-1 (inl refl) c.in_ok-index.ensures in
     let made = made_ranged job c.in_ok-ticket.ticket c.new_ticket.result c.new_ticket.ensures c.in_ok-ticket.was in
-    let takes = subst (λ u. TakesIn u (record_of t i) c.take_in.result c.take_in.new.self) made.1 c.take_in.ensures.takes in (
-      length-set t.beds i c.take_in.new.self ∙ t.room,
-      (table_still_sound t i c.take_in.new.self on.inside (take_sound t.size.count job (record_of t i) c.take_in.new.self c.take_in.result (ranged_for t.size.count job on.low made.0) takes (set-length t i on.index)), tt),
-    )
+    let takes = subst (λ u. TakesIn u (record_of t i) c.take_in.result c.take_in.new.self) made.1 c.take_in.ensures.takes in record {
+      room = length-set t.beds i c.take_in.new.self ∙ t.room;
+      sound = table_still_sound t i c.take_in.new.self on.inside (take_sound t.size.count job (record_of t i) c.take_in.new.self c.take_in.result (ranged_for t.size.count job on.low made.0) takes (set-length t i on.index));
+    }
 
 pub returns-in_err-take_in : goal.returns-in_err-take_in
 returns-in_err-take_in c kept board =

@@ -7,14 +7,11 @@ use Rattle.group.proofs.table.Table.wait.Goals as goal
 
 pub invariant_of-self : goal.invariant_of-self
 invariant_of-self c =
-    let t = c.args.self.now in (
-      length-set t.beds c.args.index _ ∙ t.room,
-      (
-        table_still_sound t c.args.index _ (omega (arith, fits t, c.requires.low))
-            (λ s. record { set_room = s.set_room; set_len = s.set_len; set = s.set; queue_room = s.queue_room; queue_len = s.queue_len; round = s.round; waits = λ _. c.requires.left }),
-        tt,
-      ),
-    )
+    let t = c.args.self.now in record {
+      room = length-set t.beds c.args.index _ ∙ t.room;
+      sound = table_still_sound t c.args.index _ (omega (arith, fits t, c.requires.low))
+          (λ s. record { set_room = s.set_room; set_len = s.set_len; set = s.set; queue_room = s.queue_room; queue_len = s.queue_len; round = s.round; waits = λ _. c.requires.left });
+    }
 
 pub returns : goal.returns
 returns c =
