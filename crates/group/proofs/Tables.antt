@@ -3,7 +3,7 @@ use Rattle.std.proofs.Common.{◌≡◌, ℕ, zero, suc, ◌<◌, ◌≤◌, Boo
 use mathlib.Core.Logic.{∥∥₁_map, ∥∥₁_elim}
 use lib.Seq.{take-set-lt, map-set, set-get_or}
 use Rattle.std.proofs.lemmas.List.{length-map, get_or-map, take-replicate}
-use Rattle.std.specs.List.{AllByRecursion as All}
+use Rattle.std.specs.List.{AllByRecursion}
 use Rattle.std.proofs.ByRecursion.{All-set, All-get_or}
 use Rattle.std.proofs.lemmas.Bool.{leb-true, leb-false, cases_lt}
 use Rattle.codec.specs.Limits.{max_beds}
@@ -55,7 +55,7 @@ pub table_unchanged : (t : Table) (kept : Slots) (board : Board) (i : ℕ) (r : 
 table_unchanged t kept board i r e = ap (λ l. record { beds = map bed_of (take t.size.count l); kept = kept; board = board }) (ap (set t.beds i) e ∙ set-get_or t.beds i no_record)
 
 -- what holds of the records still holds when a sound one comes in
-pub table_sound : (t : Table) (i : ℕ) (r : BedRecord) → BedSound t.size.count r → ∥ All (BedSound t.size.count) (set t.beds i r) ∥₁
+pub table_sound : (t : Table) (i : ℕ) (r : BedRecord) → BedSound t.size.count r → ∥ AllByRecursion (BedSound t.size.count) (set t.beds i r) ∥₁
 table_sound t i r s = ∥∥₁_map t.sound (λ a. All-set (BedSound t.size.count) t.beds i r s a)
 
 -- ---- the first rows of every call
@@ -155,7 +155,7 @@ never : IsProp ⊥
 never x y = absurd x
 
 -- what no sound table allows is not so
-pub unsound : (t : Table) → (All (BedSound t.size.count) t.beds → ⊥) → ⊥
+pub unsound : (t : Table) → (AllByRecursion (BedSound t.size.count) t.beds → ⊥) → ⊥
 unsound t f = ∥∥₁_elim t.sound never f
 
 -- a bound that every sound record has
@@ -176,7 +176,7 @@ pub queue_bounded : (t : Table) (i : ℕ) → i < length t.beds → (record_of t
 queue_bounded t i low = bounded t i _ _ low (λ s. omega (arith, s.queue_len, s.round))
 
 -- a record that is sound if the one before it was
-pub table_still_sound : (t : Table) (i : ℕ) (r : BedRecord) → i < length t.beds → (BedSound t.size.count (record_of t i) → BedSound t.size.count r) → ∥ All (BedSound t.size.count) (set t.beds i r) ∥₁
+pub table_still_sound : (t : Table) (i : ℕ) (r : BedRecord) → i < length t.beds → (BedSound t.size.count (record_of t i) → BedSound t.size.count r) → ∥ AllByRecursion (BedSound t.size.count) (set t.beds i r) ∥₁
 table_still_sound t i r low f =
     ∥∥₁_map t.sound (λ a. All-set (BedSound t.size.count) t.beds i r (f (All-get_or (BedSound t.size.count) t.beds i no_record low a)) a)
 

@@ -1,6 +1,6 @@
 // The inner table of a group: eight bed records, and how many of them the group has.
 ghost use Rattle.std.specs.Prelude.{◌≡◌, length};
-ghost use Rattle.std.specs.List.{AllByRecursion as All};
+ghost use Rattle.std.specs.List.{AllByRecursion};
 ghost use Rattle.codec.specs.Limits.{max_beds};
 ghost use Rattle.group.specs.Record.{BedSound};
 
@@ -16,5 +16,5 @@ pub struct Table {
     beds: [BedRecord; MAX_BEDS as usize],
     size: Beds,
     ghost room: { length beds ≡ max_beds },
-    ghost sound: { ∥ All (BedSound size.count) beds ∥₁ },
+    ghost sound: { ∥ AllByRecursion (BedSound size.count) beds ∥₁ },
 }
