@@ -1,5 +1,5 @@
 // Receipts: what a bed gives for a ticket that it took.
-ghost use Rattle.std.specs.Prelude.{◌≡◌};
+ghost use Rattle.std.specs.Prelude.{◌≡◌, true, false};
 
 use super::refusal::Refusal;
 use codec::ticket::Ticket;
@@ -7,13 +7,18 @@ use codec::ticket::Ticket;
 /// A bed took this ticket. A receipt must be given back, by redeem or waive: a program that lets one lapse is not proved.
 pub(crate) struct Receipt {
     ticket: Ticket,
+    given_back: bool,
 }
 
 impl Drop for Receipt {
+    // Only a receipt that was given back may go, and only `waive` gives one back.
     fn drop(self)
-        requires { ⊥ }
+        requires { self.given_back ≡ true }
     {
-        let Receipt { ticket: _ } = self;
+        let Receipt {
+            ticket: _,
+            given_back: _,
+        } = self;
     }
 }
 
@@ -34,9 +39,13 @@ pub(crate) struct Unredeemed {
 
 impl Receipt {
     pub(crate) fn new(ticket: Ticket) -> Receipt
-        ensures { result.ticket ≡ ticket }
+        ensures ticket { result.ticket ≡ ticket }
+        ensures still_out { result.given_back ≡ false }
     {
-        Receipt { ticket }
+        Receipt {
+            ticket,
+            given_back: false,
+        }
     }
 
     pub(crate) fn ticket(&self) -> &Ticket
@@ -46,10 +55,10 @@ impl Receipt {
     }
 
     /// Gives the receipt up; the ticket goes its way.
-    pub(crate) fn waive(self) -> Ticket
+    pub(crate) fn waive(mut self) -> Ticket
         ensures { result ≡ self.ticket }
     {
-        let Receipt { ticket } = self;
-        ticket
+        self.given_back = true;
+        self.ticket
     }
 }

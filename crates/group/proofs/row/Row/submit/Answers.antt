@@ -20,4 +20,4 @@ returns g c =
     let kept = g.M.Memory.holds c.args.self.now.memory in
     let board = g.S.DecisionService.board c.args.self.now.service in
     subst (λ o. SubmitDoes (world_of c.args.self.now.table kept board) c.args.bed c.args.number c.args.paths c.args.sheet o (world_of c.submit.new.self kept board))
-    (ap (map_ok Submitted) c.in_ok-ticket.was ∙ ap (λ t. Ok (Submitted t)) (sym c.new.ensures)) (c.submit.ensures kept board)
+    (ap (map_ok Submitted) c.in_ok-ticket.was ∙ ap (λ t. Ok (Submitted t)) (sym c.new.ensures.ticket)) (c.submit.ensures kept board)
