@@ -1,5 +1,5 @@
 -- How the cells of a chip lie, what they mean, and how a keep writes them; assumes nothing of what was in them.
-use Rattle.std.specs.Prelude.{◌≡◌, ℕ, zero, suc, ◌+◌, ◌-◌, ◌*◌, min, max, Bool, cond, leb, List, length, take, drop, Some, None, Option, ◌==◌, nat_le, slice_index, slice_set}
+use Rattle.std.specs.Prelude.{◌≡◌, ℕ, zero, suc, ◌+◌, ◌-◌, ◌*◌, min, max, Bool, cond, List, length, take, drop, Some, None, Option, ◌==◌, nat_le, slice_index, slice_set}
 use Rattle.codec.specs.Limits.{max_batch_bytes}
 use Rattle.memory.specs.Limits.{slot_index, placed}
 
@@ -67,7 +67,7 @@ keep_cells cells p bytes = cond (full cells p) cells (written cells p bytes (len
 unfoldable pub torn_cells : List ℕ → ℕ → List ℕ → ℕ → ℕ → List ℕ
 torn_cells cells p bytes «at» junk =
     cond (full cells p) cells
-    (cond (leb (length bytes + chip_named) «at») (written cells p bytes (length bytes + chip_named))
+    (cond (nat_le (length bytes + chip_named) «at») (written cells p bytes (length bytes + chip_named))
     (slice_set (written cells p bytes «at») (p + keep_place (length bytes) «at») junk))
 
 -- every cell is 00
