@@ -4,7 +4,8 @@
 usage: python3 tools/respell.py [FOLDER]    the folder that holds crates/, the current one if none is given
 
 Words are in snake case, and a dash joins two names of definitions. Names of functions, strings, inputs and outputs stay.
-It is run once, after the toolchain's own script has turned the rest of the spelling; a second run changes nothing.
+It is run after the toolchain's own script has turned the rest of the spelling; a second run changes nothing. The page that lists old
+names beside new ones, docs/PORT.md, stays as it is.
 """
 
 import os
@@ -66,7 +67,7 @@ def main(root):
                 how = respell
             elif inside and name.endswith((".rt", ".edit")):
                 how = outside_text
-            elif name.endswith(".md"):
+            elif name.endswith(".md") and name != "PORT.md":
                 how = in_marks
             else:
                 continue

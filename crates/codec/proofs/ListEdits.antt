@@ -46,21 +46,21 @@ pub each_placed : (P : Ticket → Type 0) (t : Ticket) (ts : List Ticket) → P 
 each_placed P t [] p e = (p, tt)
 each_placed P t (x ∷ xs) p e = placed_ways (Each P) t x xs (λ _. (p, e)) (λ _. (e.0, each_placed P t xs p e.1))
 
-placed-length : (t : Ticket) (ts : List Ticket) → length (placed t ts) ≡ length ts + 1
-placed-length t [] = refl
-placed-length t (x ∷ xs) =
-    placed_ways (λ ys. length ys ≡ length (x ∷ xs) + 1) t x xs (λ _. omega arith) (λ _. omega (arith, placed-length t xs))
+placed_length : (t : Ticket) (ts : List Ticket) → length (placed t ts) ≡ length ts + 1
+placed_length t [] = refl
+placed_length t (x ∷ xs) =
+    placed_ways (λ ys. length ys ≡ length (x ∷ xs) + 1) t x xs (λ _. omega arith) (λ _. omega (arith, placed_length t xs))
 
 or_swap : (a b c : Bool) → (a || (b || c)) ≡ (b || (a || c))
 or_swap true true c = refl
 or_swap true false c = refl
 or_swap false b c = refl
 
-placed-known : (u t : Ticket) (ts : List Ticket) → known u (placed t ts) ≡ (same_identity t u || known u ts)
-placed-known u t [] = refl
-placed-known u t (x ∷ xs) =
+placed_known : (u t : Ticket) (ts : List Ticket) → known u (placed t ts) ≡ (same_identity t u || known u ts)
+placed_known u t [] = refl
+placed_known u t (x ∷ xs) =
     placed_ways (λ ys. known u ys ≡ (same_identity t u || known u (x ∷ xs))) t x xs (λ _. refl)
-    (λ _. ap (λ (b : Bool). same_identity x u || b) (placed-known u t xs) ∙ or_swap (same_identity x u) (same_identity t u) (known u xs))
+    (λ _. ap (λ (b : Bool). same_identity x u || b) (placed_known u t xs) ∙ or_swap (same_identity x u) (same_identity t u) (known u xs))
 
 -- one of two tickets stands before the other, so if not the one then the other
 before_else : (t x : Ticket) → same_identity x t ≡ false → stands_before t x ≡ false → stands_before x t ≡ true
@@ -75,7 +75,7 @@ line_placed t (x ∷ xs) l k =
     (λ b. (
       (
         (b, same_no x t d.0),
-        each_weaker (λ u. Ahead x u × (same_identity u t ≡ false)) (Ahead t) (λ u p. (order_laws.before-through t x u b p.0.0, same_no u t p.1)) xs rest,
+        each_weaker (λ u. Ahead x u × (same_identity u t ≡ false)) (Ahead t) (λ u p. (order_laws.before_through t x u b p.0.0, same_no u t p.1)) xs rest,
       ),
       l,
     ))
@@ -85,9 +85,9 @@ pub edit_laws : EditLaws
 edit_laws = record {
   placed_sound = λ n most t ts s r k f.
       sound_from n most (placed t ts) (each_placed (InRange n) t ts r s.ranged) (line_placed t ts (line_from ts s.rising s.apart) k)
-      (omega (arith, placed-length t ts));
-  placed-known = placed-known;
-  placed-length = placed-length;
+      (omega (arith, placed_length t ts));
+  placed_known = placed_known;
+  placed_length = placed_length;
   first_sound = λ n most k ts s. sound_part n most k (take k ts) ts (take_part k ts) s (omega (arith, length-take k ts));
   passing_sound = λ n most test ts s.
       let p = passing_part test ts in

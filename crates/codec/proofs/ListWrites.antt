@@ -103,10 +103,10 @@ packet_short n bed round ts h s =
     omega (arith, s.sound.few)
 
 -- a batch that was refused has no form, where the buffer has room for any
-pub batch-refused : (n : ℕ) (ts : List Ticket) (f : WriteRefusal) (was after : List ℕ) → n ≤ max_beds → max_batch_bytes ≤ length was
+pub batch_refused : (n : ℕ) (ts : List Ticket) (f : WriteRefusal) (was after : List ℕ) → n ≤ max_beds → max_batch_bytes ≤ length was
     → Wrote (Sound n batch_tickets ts) (batch_bytes ts) was (Err f) after → BatchValue n ts (Err f)
-batch-refused n ts NoForm was after h m w = w.0
-batch-refused n ts NoRoom was after h m w = omega (arith, w.1, batch_short n ts h w.0)
+batch_refused n ts NoForm was after h m w = w.0
+batch_refused n ts NoRoom was after h m w = omega (arith, w.1, batch_short n ts h w.0)
 
 -- a byte as a wider number has a form
 pub byte_number : (b wide : ℕ) → wide ≡ b → b < 256 → wide < number_end
@@ -134,26 +134,26 @@ pub packet_tested : (n end bed round wide : ℕ) (ts : List Ticket) → end ≡ 
 packet_tested n end bed round wide ts e b f r s = record { bed_in = omega arith; round_in = omega arith; sound = s }
 
 -- a packet as it is written: the bed and the round as wider numbers, and the lengths that were added up
-module _ (bed round wide-bed wide-round : ℕ) (ts : List Ticket) (eb : wide-bed ≡ bed) (er : wide-round ≡ round) where
-  packet-sum : (lb lr lt : ℕ) → lb ≡ length (form wide-bed) → lr ≡ length (form wide-round) → lt ≡ length (list_bytes ts) → length mark + lb + lr + lt ≡ length (packet_bytes bed round ts)
-  packet-sum lb lr lt hb hr ht =
+module _ (bed round wide_bed wide_round : ℕ) (ts : List Ticket) (eb : wide_bed ≡ bed) (er : wide_round ≡ round) where
+  packet_sum : (lb lr lt : ℕ) → lb ≡ length (form wide_bed) → lr ≡ length (form wide_round) → lt ≡ length (list_bytes ts) → length mark + lb + lr + lt ≡ length (packet_bytes bed round ts)
+  packet_sum lb lr lt hb hr ht =
       let l = packet_length bed round ts in
-      let a = form-length wide-bed bed eb in
-      let b = form-length wide-round round er in
+      let a = form-length wide_bed bed eb in
+      let b = form-length wide_round round er in
       omega arith
 
-  pub packet_no_room : (lb lr lt : ℕ) (was : List ℕ) → lb ≡ length (form wide-bed) → lr ≡ length (form wide-round) → lt ≡ length (list_bytes ts)
+  pub packet_no_room : (lb lr lt : ℕ) (was : List ℕ) → lb ≡ length (form wide_bed) → lr ≡ length (form wide_round) → lt ≡ length (list_bytes ts)
       → length was < length mark + lb + lr + lt → length was < length (packet_bytes bed round ts)
-  packet_no_room lb lr lt was hb hr ht h = let s = packet-sum lb lr lt hb hr ht in omega arith
+  packet_no_room lb lr lt was hb hr ht h = let s = packet_sum lb lr lt hb hr ht in omega arith
 
-  pub packet_put : (lb lr lt : ℕ) (was w1 w2 w3 w4 : List ℕ) (n1 n2 n3 : ℕ) → lb ≡ length (form wide-bed) → lr ≡ length (form wide-round) → lt ≡ length (list_bytes ts)
-      → length mark + lb + lr + lt ≤ length was → w1 ≡ put_at was 0 mark → n1 ≡ length mark + length (form wide-bed) → w2 ≡ put_at w1 (length mark) (form wide-bed)
-      → n2 ≡ n1 + length (form wide-round) → w3 ≡ put_at w2 n1 (form wide-round) → n3 ≡ n2 + length (list_bytes ts) → w4 ≡ put_at w3 n2 (list_bytes ts)
+  pub packet_put : (lb lr lt : ℕ) (was w1 w2 w3 w4 : List ℕ) (n1 n2 n3 : ℕ) → lb ≡ length (form wide_bed) → lr ≡ length (form wide_round) → lt ≡ length (list_bytes ts)
+      → length mark + lb + lr + lt ≤ length was → w1 ≡ put_at was 0 mark → n1 ≡ length mark + length (form wide_bed) → w2 ≡ put_at w1 (length mark) (form wide_bed)
+      → n2 ≡ n1 + length (form wide_round) → w3 ≡ put_at w2 n1 (form wide_round) → n3 ≡ n2 + length (list_bytes ts) → w4 ≡ put_at w3 n2 (list_bytes ts)
       → (n3 ≡ length (packet_bytes bed round ts)) × (n3 ≤ length was) × (w4 ≡ packet_bytes bed round ts ++ drop n3 was)
   unfolding packet_bytes
   packet_put lb lr lt was w1 w2 w3 w4 n1 n2 n3 hb hr ht room e1 m1 e2 m2 e3 m3 e4 =
-      let fb = form wide-bed in
-      let fr = form wide-round in
+      let fb = form wide_bed in
+      let fr = form wide_round in
       let l2 = length-append mark fb in
       let l3 = length-append (mark ++ fb) fr in
       let l4 = length-append (mark ++ fb ++ fr) (list_bytes ts) in

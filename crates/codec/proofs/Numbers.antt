@@ -32,9 +32,9 @@ regroup v s low x =
     let c : s * 128 * x ≡ s * (128 * x) = mul_assoc s 128 x in
     omega arith
 
-pub scaled-above : (v s low : ℕ) (r : Result (ℕ × ℕ) NumberCause) → scaled v s (above low r) ≡ scaled (v + low * s) (s * 128) r
-scaled-above v s low (Ok p) = ap (λ (x : ℕ). Ok (x, p.1)) (regroup v s low p.0)
-scaled-above v s low (Err c) = refl
+pub scaled_above : (v s low : ℕ) (r : Result (ℕ × ℕ) NumberCause) → scaled v s (above low r) ≡ scaled (v + low * s) (s * 128) r
+scaled_above v s low (Ok p) = ap (λ (x : ℕ). Ok (x, p.1)) (regroup v s low p.0)
+scaled_above v s low (Err c) = refl
 
 -- one byte with the top bit set
 pub group_more : (bs : List ℕ) (done left at : ℕ) → at < length bs → 128 ≤ get_or bs at 0
@@ -71,12 +71,12 @@ is_number bs at r e = ap (fault_at at) (sym e)
 pub read_start_at : (at : ℕ) → at ≡ at + 0
 read_start_at at = omega arith
 
-scaled-none : (r : Result (ℕ × ℕ) NumberCause) → r ≡ scaled 0 1 r
-scaled-none (Ok p) = let e : p.0 ≡ 0 + 1 * p.0 = omega arith in ap (λ (x : ℕ). Ok (x, p.1)) e
-scaled-none (Err c) = refl
+scaled_none : (r : Result (ℕ × ℕ) NumberCause) → r ≡ scaled 0 1 r
+scaled_none (Ok p) = let e : p.0 ≡ 0 + 1 * p.0 = omega arith in ap (λ (x : ℕ). Ok (x, p.1)) e
+scaled_none (Err c) = refl
 
 pub read_start : (bs : List ℕ) (at : ℕ) → So bs at 0 0 1 at
-read_start bs at = scaled-none (groups_at bs 0 number_bytes at)
+read_start bs at = scaled_none (groups_at bs 0 number_bytes at)
 
 pub read_ends : (bs : List ℕ) (at i v s next : ℕ) → i < number_bytes → So bs at i v s next → length bs ≤ next
     → Err (record { cause = Ends; place = at }) ≡ number_at bs at
@@ -105,7 +105,7 @@ pub read_more : (bs : List ℕ) (at i v s next : ℕ) → i < number_bytes → S
 read_more bs at i v s next h so n g =
     so_next bs at i v s next h so
     ∙ ap (scaled v s) (group_more bs i (number_bytes - (i + 1)) next n g)
-    ∙ scaled-above v s (get_or bs next 0 - 128) (groups_at bs (i + 1) (number_bytes - (i + 1)) (next + 1))
+    ∙ scaled_above v s (get_or bs next 0 - 128) (groups_at bs (i + 1) (number_bytes - (i + 1)) (next + 1))
 
 pub read_over : (bs : List ℕ) (at i v s next : ℕ) → number_bytes ≤ i → So bs at i v s next → Err (record { cause = NotShortest; place = at }) ≡ number_at bs at
 read_over bs at i v s next h so =

@@ -12,7 +12,7 @@ order_laws = record {
   same_back = λ s t. grind (arith, nat_tests);
   same_through = λ s t u p q. grind (arith, nat_tests);
   not_before_itself = λ t. grind (arith, nat_tests);
-  before-through = λ s t u p q. grind (arith, nat_tests);
+  before_through = λ s t u p q. grind (arith, nat_tests);
   one_before = λ s t p. grind (arith, nat_tests);
 }
 

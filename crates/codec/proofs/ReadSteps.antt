@@ -31,28 +31,28 @@ module _ {F : Type 0} (number : NumberFault → F) (range : ℕ → F) (bs : Lis
   unfolding ranged_at
   ranged_fault f e = step_err (raise number (number_at bs at)) (number f) _ (ap (raise number) e)
 
-  ranged-test : (v next : ℕ) (b : Result (ℕ × ℕ) F) → Ok (v, next) ≡ number_at bs at → b ≡ cond (ltb v least || leb end v) (Err (range at)) (Ok (v, next))
+  ranged_test : (v next : ℕ) (b : Result (ℕ × ℕ) F) → Ok (v, next) ≡ number_at bs at → b ≡ cond (ltb v least || leb end v) (Err (range at)) (Ok (v, next))
       → b ≡ ranged_at number range bs at least end
   unfolding ranged_at
-  ranged-test v next b e t = step_ok (raise number (number_at bs at)) v next _ b (ap (raise number) e) t
+  ranged_test v next b e t = step_ok (raise number (number_at bs at)) v next _ b (ap (raise number) e) t
 
-  ranged-low : (v next : ℕ) → Ok (v, next) ≡ number_at bs at → v < least → Err (range at) ≡ ranged_at number range bs at least end
-  ranged-low v next e h =
-      ranged-test v next (Err (range at)) e
+  ranged_low : (v next : ℕ) → Ok (v, next) ≡ number_at bs at → v < least → Err (range at) ≡ ranged_at number range bs at least end
+  ranged_low v next e h =
+      ranged_test v next (Err (range at)) e
       (sym (cond-true (ltb v least || leb end v) (Err (range at)) (Ok (v, next)) (or_left (ltb v least) (leb end v) (lt-ltb v least h))))
 
   pub ranged_high : (v next : ℕ) → Ok (v, next) ≡ number_at bs at → end ≤ v → Err (range at) ≡ ranged_at number range bs at least end
   ranged_high v next e h =
-      ranged-test v next (Err (range at)) e
+      ranged_test v next (Err (range at)) e
       (sym (cond-true (ltb v least || leb end v) (Err (range at)) (Ok (v, next)) (or_right (ltb v least) (leb end v) (le-leb end v h))))
 
   pub ranged_out : (v next : ℕ) → Ok (v, next) ≡ number_at bs at → (v < least) ⊎ ((least ≤ v) × (end ≤ v)) → Err (range at) ≡ ranged_at number range bs at least end
-  ranged_out v next e (inl h) = ranged-low v next e h
+  ranged_out v next e (inl h) = ranged_low v next e h
   ranged_out v next e (inr p) = ranged_high v next e p.1
 
   pub ranged_in : (v next : ℕ) → Ok (v, next) ≡ number_at bs at → least ≤ v → v < end → Ok (v, next) ≡ ranged_at number range bs at least end
   ranged_in v next e l h =
-      ranged-test v next (Ok (v, next)) e
+      ranged_test v next (Ok (v, next)) e
       (sym (cond-false (ltb v least || leb end v) (Err (range at)) (Ok (v, next)) (or_from (ltb v least) (leb end v) (le-ltb v least l) (lt-leb end v h))))
 
 pub ranged_below : {F : Type 0} (number : NumberFault → F) (range : ℕ → F) (bs : List ℕ) (at end v next : ℕ) → Ok (v, next) ≡ number_at bs at → v < end
@@ -151,35 +151,35 @@ module _ (n : ℕ) (bs : List ℕ) (most : ℕ) where
     mark_other m = sym (cond-false (ltb (length bs) (length mark)) _ _ (le-ltb (length bs) (length mark) long) ∙ cond-false (marked bs) _ _ m)
 
     module _ (marks : marked bs ≡ true) where
-      after-mark : (x : Result (Head × ℕ) WholeFault) → x ≡ and_then (head_at bs (length mark) n) (λ bed a.
+      after_mark : (x : Result (Head × ℕ) WholeFault) → x ≡ and_then (head_at bs (length mark) n) (λ bed a.
           and_then (head_at bs a (max_round + 1)) (λ round b. and_then (raise wf.List (count_at bs b most)) (λ count c. Ok (hd.Packet bed round count, c))))
           → x ≡ packet_head n bs most
       unfolding packet_head
-      after-mark x e = e ∙ sym (cond-false (ltb (length bs) (length mark)) _ _ (le-ltb (length bs) (length mark) long) ∙ cond-true (marked bs) _ _ marks)
+      after_mark x e = e ∙ sym (cond-false (ltb (length bs) (length mark)) _ _ (le-ltb (length bs) (length mark) long) ∙ cond-true (marked bs) _ _ marks)
 
       -- the bed is read below `end`, which is the number of beds
       module _ (end : ℕ) (ends : end ≡ n) where
         pub bed_fault : (f : WholeFault) → Err f ≡ head_at bs (length mark) end → Err f ≡ packet_head n bs most
-        bed_fault f e = after-mark (Err f) (step_err (head_at bs (length mark) n) f _ (e ∙ ap (head_at bs (length mark)) ends))
+        bed_fault f e = after_mark (Err f) (step_err (head_at bs (length mark) n) f _ (e ∙ ap (head_at bs (length mark)) ends))
 
         module _ (bed a : ℕ) (e1 : Ok (bed, a) ≡ head_at bs (length mark) end) where
           pub round_fault : (f : WholeFault) → Err f ≡ head_at bs a (max_round + 1) → Err f ≡ packet_head n bs most
           round_fault f e =
-              after-mark (Err f)
+              after_mark (Err f)
               (step_ok (head_at bs (length mark) n) bed a _ (Err f) (e1 ∙ ap (head_at bs (length mark)) ends)
               (step_err (head_at bs a (max_round + 1)) f _ e))
 
           module _ (round b : ℕ) (e2 : Ok (round, b) ≡ head_at bs a (max_round + 1)) where
             pub count_fault : (f : ListFault) → Err f ≡ count_at bs b most → Err (wf.List f) ≡ packet_head n bs most
             count_fault f e =
-                after-mark (Err (wf.List f))
+                after_mark (Err (wf.List f))
                 (step_ok (head_at bs (length mark) n) bed a _ (Err (wf.List f)) (e1 ∙ ap (head_at bs (length mark)) ends)
                 (step_ok (head_at bs a (max_round + 1)) round b _ (Err (wf.List f)) e2
                 (step_err (raise wf.List (count_at bs b most)) (wf.List f) _ (ap (raise wf.List) e))))
 
             pub packet_head_read : (count c : ℕ) → Ok (count, c) ≡ count_at bs b most → Ok (hd.Packet bed round count, c) ≡ packet_head n bs most
             packet_head_read count c e =
-                after-mark (Ok (hd.Packet bed round count, c))
+                after_mark (Ok (hd.Packet bed round count, c))
                 (step_ok (head_at bs (length mark) n) bed a _ (Ok (hd.Packet bed round count, c)) (e1 ∙ ap (head_at bs (length mark)) ends)
                 (step_ok (head_at bs a (max_round + 1)) round b _ (Ok (hd.Packet bed round count, c)) e2
                 (step_ok (raise wf.List (count_at bs b most)) count c _ (Ok (hd.Packet bed round count, c)) (ap (raise wf.List) e) refl)))

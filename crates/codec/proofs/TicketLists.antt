@@ -52,9 +52,9 @@ known_here t xs i h e = sym (at_drop_more (known t) xs i none h ∙ or_left _ _ 
 pub known_more : (t : Ticket) (xs : List Ticket) (i : ℕ) → i < length xs → false ≡ same_identity (get_or xs i none) t → known t (drop (i + 1) xs) ≡ known t (drop i xs)
 known_more t xs i h e = sym (at_drop_more (known t) xs i none h ∙ ap (λ (b : Bool). b || known t (drop (i + 1) xs)) (sym e))
 
-pub follows-none : (t : Ticket) (xs : List Ticket) → length xs ≡ 0 → true ≡ follows t xs
-follows-none t [] e = refl
-follows-none t (x ∷ xs) e = absurd (omega arith)
+pub follows_none : (t : Ticket) (xs : List Ticket) → length xs ≡ 0 → true ≡ follows t xs
+follows_none t [] e = refl
+follows_none t (x ∷ xs) e = absurd (omega arith)
 
 pub follows_last : (t : Ticket) (xs : List Ticket) → 0 < length xs → stands_before (get_or xs (length xs - 1) none) t ≡ follows t xs
 follows_last t [] h = absurd (omega arith)
@@ -118,7 +118,7 @@ follows_each t [] l f = tt
 follows_each t (x ∷ []) l f = (f, tt)
 follows_each t (x ∷ y ∷ ys) l f =
     let r = follows_each t (y ∷ ys) l.1 f in
-    (order_laws.before-through x y t l.0.0.0 r.0, r)
+    (order_laws.before_through x y t l.0.0.0 r.0, r)
 
 -- a ticket that stands behind each passes both tests
 behind : (t : Ticket) (xs : List Ticket) → Each (λ x. Ahead x t) xs → (follows t xs ≡ true) × (known t xs ≡ false)

@@ -52,15 +52,15 @@ pub record OrderLaws : Type 0 where
   pub same_back : (s t : Ticket) → same_identity s t ≡ same_identity t s
   pub same_through : (s t u : Ticket) → same_identity s t ≡ true → same_identity t u ≡ true → same_identity s u ≡ true
   pub not_before_itself : (t : Ticket) → stands_before t t ≡ false
-  pub before-through : (s t u : Ticket) → stands_before s t ≡ true → stands_before t u ≡ true → stands_before s u ≡ true
+  pub before_through : (s t u : Ticket) → stands_before s t ≡ true → stands_before t u ≡ true → stands_before s u ≡ true
   pub one_before : (s t : Ticket) → same_identity s t ≡ false → (stands_before s t ≡ true) ⊎ (stands_before t s ≡ true)
 
 -- what keeps a list sound
 pub record EditLaws : Type 0 where
   -- one more in its place: it is there, the others are there as before, and nothing else is
   pub placed_sound : (n most : ℕ) (t : Ticket) (ts : List Ticket) → Sound n most ts → InRange n t → known t ts ≡ false → length ts < most → Sound n most (placed t ts)
-  pub placed-known : (u t : Ticket) (ts : List Ticket) → known u (placed t ts) ≡ (same_identity t u || known u ts)
-  pub placed-length : (t : Ticket) (ts : List Ticket) → length (placed t ts) ≡ length ts + 1
+  pub placed_known : (u t : Ticket) (ts : List Ticket) → known u (placed t ts) ≡ (same_identity t u || known u ts)
+  pub placed_length : (t : Ticket) (ts : List Ticket) → length (placed t ts) ≡ length ts + 1
   -- the first k
   pub first_sound : (n most k : ℕ) (ts : List Ticket) → Sound n most ts → Sound n k (take k ts)
   -- those that pass a test

@@ -39,7 +39,7 @@ pub put_decides : (s t s' : Board) (bed round : ℕ) (bytes : List ℕ) (a : Put
     → s'.beds ≡ t.beds → ((b k : ℕ) → s'.proposal b k ≡ t.proposal b k) → s'.decision round ≡ Some v → ((k : ℕ) → (k ≡ round → ⊥) → s'.decision k ≡ t.decision k)
     → Puts s bed round bytes (Ok a) s'
 put_decides s t s' bed round bytes a v p none had beds props here others =
-    let b-in = put_bed s t bed round bytes a p in
+    let b_in = put_bed s t bed round bytes a p in
     record {
       outside = λ o. absurd (ok_err a Limits (p.outside o));
       taken = λ w e. ((p.taken w e).0, props bed round ∙ (p.taken w e).1);
@@ -49,7 +49,7 @@ put_decides s t s' bed round bytes a v p none had beds props here others =
       settles = record {
         other_rounds = λ k ne. others k ne ∙ p.same_decisions k;
         stays = λ u e. absurd (none_some (t.decision round) u none (p.same_decisions round ∙ e));
-        chosen = λ u e f. (bed, subst (λ (n : ℕ). bed < n) (sym (beds ∙ p.same_beds)) b-in, props bed round ∙ had ∙ sym here ∙ f);
+        chosen = λ u e f. (bed, subst (λ (n : ℕ). bed < n) (sym (beds ∙ p.same_beds)) b_in, props bed round ∙ had ∙ sym here ∙ f);
       };
     }
 
@@ -108,7 +108,7 @@ poll_same s round r h a e = record {
 pub poll_decides : (s s' : Board) (round bed : ℕ) (x : Value) → round < round_count → s.decision round ≡ None → bed < s.beds → s.proposal bed round ≡ Some (value_bytes x)
     → s'.beds ≡ s.beds → ((b k : ℕ) → s'.proposal b k ≡ s.proposal b k) → s'.decision round ≡ Some (value_bytes x) → ((k : ℕ) → (k ≡ round → ⊥) → s'.decision k ≡ s.decision k)
     → Polls s round (Ok x) s'
-poll_decides s s' round bed x h none b-in had beds props here others = record {
+poll_decides s s' round bed x h none b_in had beds props here others = record {
   outside = λ o. absurd (o h);
   answer = λ _. poll_answer_some (s'.decision round) x here;
   same_beds = beds;
@@ -116,7 +116,7 @@ poll_decides s s' round bed x h none b-in had beds props here others = record {
   settles = record {
     other_rounds = others;
     stays = λ v e. absurd (none_some (s.decision round) v none e);
-    chosen = λ v e f. (bed, subst (λ (n : ℕ). bed < n) (sym beds) b-in, props bed round ∙ had ∙ sym here ∙ f);
+    chosen = λ v e f. (bed, subst (λ (n : ℕ). bed < n) (sym beds) b_in, props bed round ∙ had ∙ sym here ∙ f);
   };
   enough = λ _ _. ap is_some here;
 }

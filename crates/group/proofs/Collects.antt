@@ -152,7 +152,7 @@ module _ (t : Table) (m : Slots) (s : Board) (b : ℕ) (p : Turn) (on : Collecta
         kept = refl;
         poll_answer = o;
         polls = polled o s' h;
-        outcome = Collected.bad-decided (value_bytes x) f (ap s'.decision (sym round_is) ∙ decided o x s' h ok) (ap (λ k. batch_of k (value_bytes x)) (table_size t) ∙ bad) (ap (λ r. Err (faulty f b r so.Service)) round_is) refl;
+        outcome = Collected.bad_decided (value_bytes x) f (ap s'.decision (sym round_is) ∙ decided o x s' h ok) (ap (λ k. batch_of k (value_bytes x)) (table_size t) ∙ bad) (ap (λ r. Err (faulty f b r so.Service)) round_is) refl;
       })
 
   pub collect_done : (o : Result Value DecisionRefusal) (x : Value) (s' : Board) (ts : List Ticket) (t' : Table) → Polls s p.round o s' → o ≡ Ok x → IsBatch t.size.count (value_bytes x) ts →

@@ -60,7 +60,7 @@ module _ (n : ℕ) (most : n ≤ max_beds) (w w' : World) (b : ℕ) (a : Answer)
 
       go : Collected w b a w' → Brings
       go (Collected.undecided none answer beds) = absurd (not_none (w'.board.decision r) there.0 there.1 none)
-      go (Collected.bad-decided v f d bad answer beds) =
+      go (Collected.bad_decided v f d bad answer beds) =
           absurd (batch_not_faulty Any n v f most (decided_batch Any n w.kept w'.board st r v d) (subst (λ k. batch_of k v ≡ Err f) g.size bad))
       go (Collected.decided v ts d good answer beds) =
           let chosen = st.decisions r v d in
@@ -86,21 +86,21 @@ module _ (named : ℕ) (w₀ : World) (h : History) (w : World) (new : New w₀)
   good : Good Any (size w₀) e.before
   good = (moment named w₀ h w new l past rest e eq).good
 
-  ripe-brings : Brings (size w₀) new.most e.before e.after b e.answer good ripe.in_group ripe.waits ripe.enough
-  ripe-brings =
+  ripe_brings : Brings (size w₀) new.most e.before e.after b e.answer good ripe.in_group ripe.waits ripe.enough
+  ripe_brings =
       brings (size w₀) new.most e.before e.after b e.answer good ripe.in_group ripe.waits ripe.enough
       (collects_of e.before b e.answer e.after ripe.in_group ripe.waits
       (subst (λ c. Does named e.before c e.answer e.after) ripe.call (moment named w₀ h w new l past rest e eq).does))
 
-  ripe-accepted : Accepted e.answer
-  ripe-accepted = ok_accepted e.answer rp.Done ripe-brings.done
+  ripe_accepted : Accepted e.answer
+  ripe_accepted = ok_accepted e.answer rp.Done ripe_brings.done
 
-  ripe-queued : (t : Ticket) → AllHold e.before (bed e.before b).round t → known t (bed e.after b).queue ≡ true
-  ripe-queued t holds = queued (size w₀) new.most e.before e.after b e.answer good ripe.in_group ripe.waits ripe.enough t holds ripe-brings
+  ripe_queued : (t : Ticket) → AllHold e.before (bed e.before b).round t → known t (bed e.after b).queue ≡ true
+  ripe_queued t holds = queued (size w₀) new.most e.before e.after b e.answer good ripe.in_group ripe.waits ripe.enough t holds ripe_brings
 
 pub progress : (named : ℕ) (w₀ : World) (h : History) (w : World) → New w₀ → Lived named w₀ h w → Progress w₀ h
-progress named w₀ h w new l past rest e eq b ripe = ripe-accepted named w₀ h w new l past rest e eq b ripe
+progress named w₀ h w new l past rest e eq b ripe = ripe_accepted named w₀ h w new l past rest e eq b ripe
 
 pub delivery : (named : ℕ) (w₀ : World) (h : History) (w : World) → New w₀ → Lived named w₀ h w → Delivery w₀ h
 delivery named w₀ h w new l past rest e eq b t ripe holds =
-    (ripe-accepted named w₀ h w new l past rest e eq b ripe, ripe-queued named w₀ h w new l past rest e eq b ripe t holds)
+    (ripe_accepted named w₀ h w new l past rest e eq b ripe, ripe_queued named w₀ h w new l past rest e eq b ripe t holds)

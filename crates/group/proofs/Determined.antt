@@ -68,9 +68,9 @@ proposed_grow {n} {b} {r} {slot} {s} {s'} p =
 replay_grow : {n b : ℕ} {m : ℕ → Option (List ℕ)} {r : ℕ} {q : List Ticket} {s s' : Board} {end : Result Bed Refusal} → Replay n m b r q s end s' → Grow s.decision s'.decision
 replay_grow (Replay.over) k v e = e
 replay_grow (Replay.empty l z) k v e = e
-replay_grow (Replay.bad-kept u f l z d) k v e = e
+replay_grow (Replay.bad_kept u f l z d) k v e = e
 replay_grow (Replay.undecided p z) k v e = proposed_grow p k v e
-replay_grow (Replay.bad-decided u f p d z) k v e = proposed_grow p k v e
+replay_grow (Replay.bad_decided u f p d z) k v e = proposed_grow p k v e
 replay_grow (Replay.next u ts p d g more) k v e = replay_grow more k v (proposed_grow p k v e)
 
 module _ (n : ℕ) (most : n ≤ max_beds) (K : Slots) (b : ℕ) where
@@ -91,39 +91,39 @@ module _ (n : ℕ) (most : n ≤ max_beds) (K : Slots) (b : ℕ) where
       others c k d =
           p.polls.same_proposals c k ∙ p.puts.others c k d ∙ e.1 c k ∙ sym (o.puts.others c k d) ∙ sym (o.polls.same_proposals c k)
 
-  same-replay : {r : ℕ} {q : List Ticket} {s s' t t' : Board} {end end' : Result Bed Refusal} → Replay n (K b) b r q s end s' → Replay n (K b) b r q t end' t' →
+  same_replay : {r : ℕ} {q : List Ticket} {s s' t t' : Board} {end end' : Result Bed Refusal} → Replay n (K b) b r q s end s' → Replay n (K b) b r q t end' t' →
       Store Any n K s → Store Any n K t → SameBoard s t → ((k : ℕ) → s'.decision k ≡ t'.decision k) → (end ≡ end') × SameBoard s' t'
-  same-replay Replay.over Replay.over ss st e d = (refl, e)
-  same-replay Replay.over (Replay.empty l z) ss st e d = absurd (omega arith)
-  same-replay Replay.over (Replay.bad-kept v f l k z) ss st e d = absurd (omega arith)
-  same-replay Replay.over (Replay.undecided p z) ss st e d = absurd (omega (arith, p.left))
-  same-replay Replay.over (Replay.bad-decided v f p x z) ss st e d = absurd (omega (arith, p.left))
-  same-replay Replay.over (Replay.next v ts p x g more) ss st e d = absurd (omega (arith, p.left))
-  same-replay (Replay.empty l z) Replay.over ss st e d = absurd (omega arith)
-  same-replay (Replay.empty l z) (Replay.empty l' z') ss st e d = (refl, e)
-  same-replay (Replay.empty {round = r} l z) (Replay.bad-kept v f l' k z') ss st e d = absurd (not_none (K b r) v k z)
-  same-replay (Replay.empty {round = r} l z) (Replay.undecided p z') ss st e d = absurd (not_none (K b r) p.bytes p.full z)
-  same-replay (Replay.empty {round = r} l z) (Replay.bad-decided v f p x z') ss st e d = absurd (not_none (K b r) p.bytes p.full z)
-  same-replay (Replay.empty {round = r} l z) (Replay.next v ts p x g more) ss st e d = absurd (not_none (K b r) p.bytes p.full z)
-  same-replay (Replay.bad-kept {round = r} v f l k z) y ss st e d = absurd (batch_not_faulty Any n v f most (ss.slots b r v k).batch z)
-  same-replay (Replay.undecided p z) Replay.over ss st e d = absurd (omega (arith, p.left))
-  same-replay (Replay.undecided {round = r} p z) (Replay.empty l z') ss st e d = absurd (not_none (K b r) p.bytes p.full z')
-  same-replay (Replay.undecided {round = r} p z) (Replay.bad-kept v f l k z') ss st e d = absurd (batch_not_faulty Any n v f most (st.slots b r v k).batch z')
-  same-replay (Replay.undecided {round = r} {s = s} {s' = s'} p z) (Replay.undecided {s = t} {s' = t'} o z') ss st e d = (refl, same_round r s s' t t' ss st p o e)
-  same-replay (Replay.undecided {round = r} {s' = s'} p z) (Replay.bad-decided {s' = t'} v f o x z') ss st e d = absurd (not_none (t'.decision r) v x (sym (d r) ∙ z))
-  same-replay (Replay.undecided {round = r} {s' = s'} p z) (Replay.next {s'' = t''} v ts o x g more) ss st e d = absurd (not_none (t''.decision r) v (replay_grow more r v x) (sym (d r) ∙ z))
-  same-replay (Replay.bad-decided {round = r} {s = s} {s' = s'} v f p x z) y ss st e d =
+  same_replay Replay.over Replay.over ss st e d = (refl, e)
+  same_replay Replay.over (Replay.empty l z) ss st e d = absurd (omega arith)
+  same_replay Replay.over (Replay.bad_kept v f l k z) ss st e d = absurd (omega arith)
+  same_replay Replay.over (Replay.undecided p z) ss st e d = absurd (omega (arith, p.left))
+  same_replay Replay.over (Replay.bad_decided v f p x z) ss st e d = absurd (omega (arith, p.left))
+  same_replay Replay.over (Replay.next v ts p x g more) ss st e d = absurd (omega (arith, p.left))
+  same_replay (Replay.empty l z) Replay.over ss st e d = absurd (omega arith)
+  same_replay (Replay.empty l z) (Replay.empty l' z') ss st e d = (refl, e)
+  same_replay (Replay.empty {round = r} l z) (Replay.bad_kept v f l' k z') ss st e d = absurd (not_none (K b r) v k z)
+  same_replay (Replay.empty {round = r} l z) (Replay.undecided p z') ss st e d = absurd (not_none (K b r) p.bytes p.full z)
+  same_replay (Replay.empty {round = r} l z) (Replay.bad_decided v f p x z') ss st e d = absurd (not_none (K b r) p.bytes p.full z)
+  same_replay (Replay.empty {round = r} l z) (Replay.next v ts p x g more) ss st e d = absurd (not_none (K b r) p.bytes p.full z)
+  same_replay (Replay.bad_kept {round = r} v f l k z) y ss st e d = absurd (batch_not_faulty Any n v f most (ss.slots b r v k).batch z)
+  same_replay (Replay.undecided p z) Replay.over ss st e d = absurd (omega (arith, p.left))
+  same_replay (Replay.undecided {round = r} p z) (Replay.empty l z') ss st e d = absurd (not_none (K b r) p.bytes p.full z')
+  same_replay (Replay.undecided {round = r} p z) (Replay.bad_kept v f l k z') ss st e d = absurd (batch_not_faulty Any n v f most (st.slots b r v k).batch z')
+  same_replay (Replay.undecided {round = r} {s = s} {s' = s'} p z) (Replay.undecided {s = t} {s' = t'} o z') ss st e d = (refl, same_round r s s' t t' ss st p o e)
+  same_replay (Replay.undecided {round = r} {s' = s'} p z) (Replay.bad_decided {s' = t'} v f o x z') ss st e d = absurd (not_none (t'.decision r) v x (sym (d r) ∙ z))
+  same_replay (Replay.undecided {round = r} {s' = s'} p z) (Replay.next {s'' = t''} v ts o x g more) ss st e d = absurd (not_none (t''.decision r) v (replay_grow more r v x) (sym (d r) ∙ z))
+  same_replay (Replay.bad_decided {round = r} {s = s} {s' = s'} v f p x z) y ss st e d =
       absurd (batch_not_faulty Any n v f most (decided_batch Any n K s' (polled Any n most K b r s s' ss p).store r v x) z)
-  same-replay (Replay.next v ts p x g more) Replay.over ss st e d = absurd (omega (arith, p.left))
-  same-replay (Replay.next {round = r} v ts p x g more) (Replay.empty l z) ss st e d = absurd (not_none (K b r) p.bytes p.full z)
-  same-replay (Replay.next {round = r} v ts p x g more) (Replay.bad-kept u f l k z) ss st e d = absurd (batch_not_faulty Any n u f most (st.slots b r u k).batch z)
-  same-replay (Replay.next {round = r} {s'' = s''} v ts p x g more) (Replay.undecided o z) ss st e d = absurd (not_none (s''.decision r) v (replay_grow more r v x) (d r ∙ z))
-  same-replay (Replay.next {round = r} v ts p x g more) (Replay.bad-decided {s = t} {s' = t'} u f o y z) ss st e d =
+  same_replay (Replay.next v ts p x g more) Replay.over ss st e d = absurd (omega (arith, p.left))
+  same_replay (Replay.next {round = r} v ts p x g more) (Replay.empty l z) ss st e d = absurd (not_none (K b r) p.bytes p.full z)
+  same_replay (Replay.next {round = r} v ts p x g more) (Replay.bad_kept u f l k z) ss st e d = absurd (batch_not_faulty Any n u f most (st.slots b r u k).batch z)
+  same_replay (Replay.next {round = r} {s'' = s''} v ts p x g more) (Replay.undecided o z) ss st e d = absurd (not_none (s''.decision r) v (replay_grow more r v x) (d r ∙ z))
+  same_replay (Replay.next {round = r} v ts p x g more) (Replay.bad_decided {s = t} {s' = t'} u f o y z) ss st e d =
       absurd (batch_not_faulty Any n u f most (decided_batch Any n K t' (polled Any n most K b r t t' st o).store r u y) z)
-  same-replay (Replay.next {round = r} {queue = q} {s = s} {s' = s'} {s'' = s''} v ts p x g more) (Replay.next {s = t} {s' = t'} {s'' = t''} {end = end'} u us o y h rest) ss st e d =
+  same_replay (Replay.next {round = r} {queue = q} {s = s} {s' = s'} {s'' = s''} v ts p x g more) (Replay.next {s = t} {s' = t'} {s'' = t''} {end = end'} u us o y h rest) ss st e d =
       let bytes : v ≡ u = same_some (t''.decision r) v u (sym (d r) ∙ replay_grow more r v x) (replay_grow rest r u y) in
       let tickets : us ≡ ts = one_batch n u us ts most h (subst (λ (l : List ℕ). IsBatch n l ts) bytes g) in
-      same-replay more (subst (λ (l : List Ticket). Replay n (K b) b (suc r) (append q l) t' end' t'') tickets rest)
+      same_replay more (subst (λ (l : List Ticket). Replay n (K b) b (suc r) (append q l) t' end' t'') tickets rest)
       (polled Any n most K b r s s' ss p).store (polled Any n most K b r t t' st o).store (same_round r s s' t t' ss st p o e) d
 
 -- ---- the calls
@@ -132,24 +132,24 @@ module _ (n : ℕ) (most : n ≤ max_beds) (w : World) (g : Good Any n w) (v v' 
   sized : size w ≤ max_beds
   sized = subst (λ k. k ≤ max_beds) (sym g.size) most
 
-  not-both : (b : ℕ) (bytes : List ℕ) {c c' : Answer} {u u' : World} → HearsFaulty w b bytes c u → Hears w b bytes c' u' → ⊥
-  not-both b bytes h k =
+  not_both : (b : ℕ) (bytes : List ℕ) {c c' : Answer} {u u' : World} → HearsFaulty w b bytes c u → Hears w b bytes c' u' → ⊥
+  not_both b bytes h k =
       ok_err (packet_of (size w) bytes) _ h.fault (packet_laws.whole (size w) bytes k.from k.round k.tickets sized k.packet) h.read
 
-  same-hear : (b : ℕ) (bytes : List ℕ) → HearsFaulty w b bytes a v ⊎ Hears w b bytes a v → HearsFaulty w b bytes a' v' ⊎ Hears w b bytes a' v' → SameOutcome a v a' v'
-  same-hear b bytes (inl h) (inl k) =
+  same_hear : (b : ℕ) (bytes : List ℕ) → HearsFaulty w b bytes a v ⊎ Hears w b bytes a v → HearsFaulty w b bytes a' v' ⊎ Hears w b bytes a' v' → SameOutcome a v a' v'
+  same_hear b bytes (inl h) (inl k) =
       let e : h.fault ≡ k.fault = same_err (packet_of (size w) bytes) h.fault k.fault h.read k.read in
       equal (h.refusal.0 ∙ ap (λ f. Err (faulty f b (bed w b).round so.Packet)) e ∙ sym k.refusal.0) (h.refusal.1 ∙ sym k.refusal.1)
-  same-hear b bytes (inl h) (inr k) = absurd (not-both b bytes h k)
-  same-hear b bytes (inr h) (inl k) = absurd (not-both b bytes k h)
-  same-hear b bytes (inr h) (inr k) =
+  same_hear b bytes (inl h) (inr k) = absurd (not_both b bytes h k)
+  same_hear b bytes (inr h) (inl k) = absurd (not_both b bytes k h)
+  same_hear b bytes (inr h) (inr k) =
       let one = packet_laws.one (size w) h.from h.round k.from k.round h.tickets k.tickets sized h.packet.sound k.packet.sound (sym h.packet.bytes ∙ k.packet.bytes) in
       let x : Bed = bed w b in
       equal (h.answer ∙ ap (λ ts. Ok (rp.Heard (counts_of (heard_by x ts)))) one.2 ∙ sym k.answer)
       (h.after ∙ ap (λ r. changed w b (hearing x r h.tickets)) one.1 ∙ ap (λ ts. changed w b (hearing x k.round ts)) one.2 ∙ sym k.after)
 
-  same-propose : (b : ℕ) → (size w ≤ b → ⊥) → Running w b → (round_count ≤ (bed w b).round → ⊥) → Proposes w b a v → Proposes w b a' v' → SameOutcome a v a' v'
-  same-propose b in_group run left h k = record {
+  same_propose : (b : ℕ) → (size w ≤ b → ⊥) → Running w b → (round_count ≤ (bed w b).round → ⊥) → Proposes w b a v → Proposes w b a' v' → SameOutcome a v a' v'
+  same_propose b in_group run left h k = record {
     answer = same_from a a' (h.answer ∙ sym k.answer);
     beds = h.beds ∙ sym k.beds;
     size = h.puts.same_beds ∙ sym k.puts.same_beds;
@@ -177,27 +177,27 @@ module _ (n : ℕ) (most : n ≤ max_beds) (w : World) (g : Good Any n w) (v v' 
   same_bytes : (b : ℕ) (u u' : List ℕ) → v.board.decision (bed w b).round ≡ Some u → v'.board.decision (bed w b).round ≡ Some u' → u ≡ u'
   same_bytes b u u' d d' = same_some (v'.board.decision (bed w b).round) u u' (sym (choices.decided (bed w b).round) ∙ d) d'
 
-  same-collected : (b : ℕ) → Collected w b a v → Collected w b a' v' → (a ≡ a') × (v.beds ≡ v'.beds)
-  same-collected b (Collected.undecided z x y) (Collected.undecided z' x' y') = (x ∙ sym x', y ∙ sym y')
-  same-collected b (Collected.undecided z x y) (Collected.bad-decided u f d e x' y') = absurd (not_none (v'.board.decision (bed w b).round) u d (sym (choices.decided (bed w b).round) ∙ z))
-  same-collected b (Collected.undecided z x y) (Collected.decided u ts d e x' y') = absurd (not_none (v'.board.decision (bed w b).round) u d (sym (choices.decided (bed w b).round) ∙ z))
-  same-collected b (Collected.bad-decided u f d e x y) (Collected.undecided z x' y') = absurd (not_none (v.board.decision (bed w b).round) u d (choices.decided (bed w b).round ∙ z))
-  same-collected b (Collected.decided u ts d e x y) (Collected.undecided z x' y') = absurd (not_none (v.board.decision (bed w b).round) u d (choices.decided (bed w b).round ∙ z))
-  same-collected b (Collected.bad-decided u f d e x y) (Collected.bad-decided u' f' d' e' x' y') =
+  same_collected : (b : ℕ) → Collected w b a v → Collected w b a' v' → (a ≡ a') × (v.beds ≡ v'.beds)
+  same_collected b (Collected.undecided z x y) (Collected.undecided z' x' y') = (x ∙ sym x', y ∙ sym y')
+  same_collected b (Collected.undecided z x y) (Collected.bad_decided u f d e x' y') = absurd (not_none (v'.board.decision (bed w b).round) u d (sym (choices.decided (bed w b).round) ∙ z))
+  same_collected b (Collected.undecided z x y) (Collected.decided u ts d e x' y') = absurd (not_none (v'.board.decision (bed w b).round) u d (sym (choices.decided (bed w b).round) ∙ z))
+  same_collected b (Collected.bad_decided u f d e x y) (Collected.undecided z x' y') = absurd (not_none (v.board.decision (bed w b).round) u d (choices.decided (bed w b).round ∙ z))
+  same_collected b (Collected.decided u ts d e x y) (Collected.undecided z x' y') = absurd (not_none (v.board.decision (bed w b).round) u d (choices.decided (bed w b).round ∙ z))
+  same_collected b (Collected.bad_decided u f d e x y) (Collected.bad_decided u' f' d' e' x' y') =
       let s : u ≡ u' = same_bytes b u u' d d' in
       let t : f ≡ f' = same_err (batch_of (size w) u') f f' (subst (λ (l : List ℕ). batch_of (size w) l ≡ Err f) s e) e' in
       (x ∙ ap (λ h. Err (faulty h b (bed w b).round so.Service)) t ∙ sym x', y ∙ sym y')
-  same-collected b (Collected.bad-decided u f d e x y) (Collected.decided u' ts d' e' x' y') =
+  same_collected b (Collected.bad_decided u f d e x y) (Collected.decided u' ts d' e' x' y') =
       absurd (ok_err (batch_of (size w) u') ts f (batch_laws.whole (size w) u' ts sized e') (subst (λ (l : List ℕ). batch_of (size w) l ≡ Err f) (same_bytes b u u' d d') e))
-  same-collected b (Collected.decided u ts d e x y) (Collected.bad-decided u' f d' e' x' y') =
+  same_collected b (Collected.decided u ts d e x y) (Collected.bad_decided u' f d' e' x' y') =
       absurd (ok_err (batch_of (size w) u) ts f (batch_laws.whole (size w) u ts sized e) (subst (λ (l : List ℕ). batch_of (size w) l ≡ Err f) (sym (same_bytes b u u' d d')) e'))
-  same-collected b (Collected.decided u ts d e x y) (Collected.decided u' ts' d' e' x' y') =
+  same_collected b (Collected.decided u ts d e x y) (Collected.decided u' ts' d' e' x' y') =
       let t : ts ≡ ts' = one_batch (size w) u' ts ts' sized (subst (λ (l : List ℕ). IsBatch (size w) l ts) (same_bytes b u u' d d') e) e' in
       (x ∙ sym x', y ∙ ap (λ l. set w.beds b (collected (bed w b) l)) t ∙ sym y')
 
-  same-collect : (b : ℕ) → Collects w b a v → Collects w b a' v' → SameOutcome a v a' v'
-  same-collect b h k =
-      let c = same-collected b h.outcome k.outcome in
+  same_collect : (b : ℕ) → Collects w b a v → Collects w b a' v' → SameOutcome a v a' v'
+  same_collect b h k =
+      let c = same_collected b h.outcome k.outcome in
       record {
         answer = same_from a a' c.0;
         beds = c.1;
@@ -211,12 +211,12 @@ module _ (n : ℕ) (most : n ≤ max_beds) (w : World) (g : Good Any n w) (v v' 
 
   same_start : (b : ℕ) → Starts w b a v → Starts w b a' v' → SameOutcome a v a' v'
   same_start b h k =
-      let e = same-replay n most w.kept b (sized-replay h.replay) (sized-replay k.replay) g.store g.store (refl, λ c r. refl) choices.decided in
+      let e = same_replay n most w.kept b (sized_replay h.replay) (sized_replay k.replay) g.store g.store (refl, λ c r. refl) choices.decided in
       let c = same_ends b k.end (subst (λ o. StartEnds w b o a v) e.0 h.ends) k.ends in
       record { answer = same_from a a' c.0; beds = c.1; size = e.1.0; proposals = e.1.1 }
     where
-      sized-replay : {end : Result Bed Refusal} {s : Board} → Replay (size w) (w.kept b) b 0 [] w.board end s → Replay n (w.kept b) b 0 [] w.board end s
-      sized-replay {end} {s} r = subst (λ j. Replay j (w.kept b) b 0 [] w.board end s) g.size r
+      sized_replay : {end : Result Bed Refusal} {s : Board} → Replay (size w) (w.kept b) b 0 [] w.board end s → Replay n (w.kept b) b 0 [] w.board end s
+      sized_replay {end} {s} r = subst (λ j. Replay j (w.kept b) b 0 [] w.board end s) g.size r
 
 -- ---- any call
 
@@ -245,7 +245,7 @@ same_call named n most w g (call.Send bed room) a v b v' d e ch =
 same_call named n most w g (call.Hear bed bytes) a v b v' d e ch =
     by_rows d e λ _ d e.
     by_rows d e λ _ d e.
-    same-hear n most w g v v' a b ch bed bytes.now d e
+    same_hear n most w g v v' a b ch bed bytes.now d e
 same_call named n most w g (call.Propose bed) a v b v' d e ch =
     by_rows d e λ in_group d e.
     by_rows d e λ run d e.
@@ -253,7 +253,7 @@ same_call named n most w g (call.Propose bed) a v b v' d e ch =
     by_rows d e λ left d e.
     by_rows d e λ _ d e.
     by_rows d e λ _ d e.
-    same-propose n most w g v v' a b ch bed in_group run left d e
+    same_propose n most w g v v' a b ch bed in_group run left d e
 same_call named n most w g (call.Trip bed «at» junk) a v b v' d e ch =
     by_rows d e λ _ d e.
     by_rows d e λ _ d e.
@@ -270,7 +270,7 @@ same_call named n most w g (call.Collect bed) a v b v' d e ch =
     by_rows d e λ _ d e.
     by_rows d e λ _ d e.
     by_rows d e λ _ d e.
-    same-collect n most w g v v' a b ch bed d e
+    same_collect n most w g v v' a b ch bed d e
 same_call named n most w g (call.Off bed) a v b v' d e ch =
     by_rows d e λ _ d e.
     by_rows d e λ _ d e.

@@ -39,7 +39,7 @@ hear_each P queue h (t ∷ ts) e p =
 
 one_grows : (queue : List Ticket) (h : Hearing) (t : Ticket) → length (hear_one queue h t).set + h.taken ≡ length h.set + (hear_one queue h t).taken
 one_grows queue h t =
-    hear_ways (λ g. length g.set + h.taken ≡ length h.set + g.taken) queue h t (λ k. refl) (λ k l. omega (arith, edit_laws.placed-length t h.set)) (λ l. refl)
+    hear_ways (λ g. length g.set + h.taken ≡ length h.set + g.taken) queue h t (λ k. refl) (λ k l. omega (arith, edit_laws.placed_length t h.set)) (λ l. refl)
 
 hear_grows : (queue : List Ticket) (h : Hearing) (ts : List Ticket) → length (hear_all queue h ts).set + h.taken ≡ length h.set + (hear_all queue h ts).taken
 hear_grows queue h [] = refl
@@ -55,7 +55,7 @@ hear_counted queue h (t ∷ ts) = omega (arith, one_counted queue h t, hear_coun
 one_more : (queue : List Ticket) (h : Hearing) (t : Ticket) → (length h.set ≤ length (hear_one queue h t).set) × (h.full ≤ (hear_one queue h t).full)
 one_more queue h t =
     hear_ways (λ g. (length h.set ≤ length g.set) × (h.full ≤ g.full)) queue h t (λ k. (omega arith, omega arith))
-    (λ k l. (omega (arith, edit_laws.placed-length t h.set), omega arith)) (λ l. (omega arith, omega arith))
+    (λ k l. (omega (arith, edit_laws.placed_length t h.set), omega arith)) (λ l. (omega arith, omega arith))
 
 hear_more : (queue : List Ticket) (h : Hearing) (ts : List Ticket) → (length h.set ≤ length (hear_all queue h ts).set) × (h.full ≤ (hear_all queue h ts).full)
 hear_more queue h [] = (omega arith, omega arith)
@@ -87,7 +87,7 @@ or_more a b c f k = elim (or_cases a c k) [ inl p ↦ or_left b c (f p) | inr p 
 one_keeps : (queue : List Ticket) (h : Hearing) (t u : Ticket) → Knows queue h u → Knows queue (hear_one queue h t) u
 one_keeps queue h t u k =
     hear_ways (λ g. Knows queue g u) queue h t (λ _. k)
-    (λ _ l. or_more (known u h.set) (known u (placed t h.set)) (known u queue) (λ p. edit_laws.placed-known u t h.set ∙ or_right (same_identity t u) (known u h.set) p) k)
+    (λ _ l. or_more (known u h.set) (known u (placed t h.set)) (known u queue) (λ p. edit_laws.placed_known u t h.set ∙ or_right (same_identity t u) (known u h.set) p) k)
     (λ l. k)
 
 hear_keeps : (queue : List Ticket) (h : Hearing) (ts : List Ticket) (u : Ticket) → Knows queue h u → Knows queue (hear_all queue h ts) u
@@ -97,7 +97,7 @@ hear_keeps queue h (t ∷ ts) u k = hear_keeps queue (hear_one queue h t) ts u (
 one_known : (queue : List Ticket) (h : Hearing) (t : Ticket) → (hear_one queue h t).full ≤ h.full → Knows queue (hear_one queue h t) t
 one_known queue h t =
     hear_ways (λ g. g.full ≤ h.full → Knows queue g t) queue h t (λ k l. k)
-    (λ k r l. or_left (known t (placed t h.set)) (known t queue) (edit_laws.placed-known t t h.set ∙ or_left (same_identity t t) (known t h.set) (order_laws.same_itself t)))
+    (λ k r l. or_left (known t (placed t h.set)) (known t queue) (edit_laws.placed_known t t h.set ∙ or_left (same_identity t t) (known t h.set) (order_laws.same_itself t)))
     (λ r l. absurd (omega arith))
 
 hear_all_lem : (queue : List Ticket) (h : Hearing) (ts : List Ticket) → (hear_all queue h ts).full ≤ h.full → Each (Knows queue (hear_all queue h ts)) ts

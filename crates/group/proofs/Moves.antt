@@ -108,26 +108,26 @@ start_starts V n w b a w' most g s =
     record { kept = s.kept; end = s.end; ends = e; beds = f.1; done = f.0 }
 
 module _ {V V' : Ticket → Type 0} {n : ℕ} {w w' : World} {a : Answer} (m : Made V V' n w a w') where
-  old-set : (b : ℕ) → Running w b → SetGood V' n (bed w b).waiting
-  old-set b run = set_more V V' n (bed w b).waiting m.more (m.good.bed b run).set
+  old_set : (b : ℕ) → Running w b → SetGood V' n (bed w b).waiting
+  old_set b run = set_more V V' n (bed w b).waiting m.more (m.good.bed b run).set
 
-  old-store : Store V' n w.kept w.board
-  old-store = store_more V V' n w.kept w.board m.more m.good.store
+  old_store : Store V' n w.kept w.board
+  old_store = store_more V V' n w.kept w.board m.more m.good.store
 
   off_next : (b : ℕ) → OffDoes w b a w' → Next V' n w a w'
   off_next b h =
       on_running_lem m h λ l run d.
       alone m b l (ok_harmless a rp.Done d.0) off_bed d.1 (λ z. absurd (z refl))
 
-  submit-next : (b number paths sheet : ℕ) → (Accepted a → V' (ticket_of b number paths sheet)) → SubmitDoes w b number paths sheet a w' → Next V' n w a w'
-  submit-next b number paths sheet new h =
+  submit_next : (b number paths sheet : ℕ) → (Accepted a → V' (ticket_of b number paths sheet)) → SubmitDoes w b number paths sheet a w' → Next V' n w a w'
+  submit_next b number paths sheet new h =
       let t : Ticket = ticket_of b number paths sheet in
       let x : Bed = bed w b in
       on_running_lem m h λ l run h.
       by_row m h tt λ ranged h.
       by_row m h tt λ unknown h.
       by_row m h tt λ room d.
-      let s = old-set b run in
+      let s = old_set b run in
       same_round m b l run (ok_harmless a (rp.Submitted t) d.0) (with_set x (placed t x.waiting)) d.1 refl refl refl
       (record {
         sound = edit_laws.placed_sound n set_tickets t x.waiting s.sound (subst (λ k. InRange k t) m.good.size (in_range_from (size w) t ranged))
@@ -135,14 +135,14 @@ module _ {V V' : Ticket → Type 0} {n : ℕ} {w w' : World} {a : Answer} (m : M
         valid = each_placed V' t x.waiting (new (ok_accepted a (rp.Submitted t) d.0)) s.valid;
       })
 
-  send-next : (b room : ℕ) → SendDoes w b room a w' → Next V' n w a w'
-  send-next b room h =
+  send_next : (b room : ℕ) → SendDoes w b room a w' → Next V' n w a w'
+  send_next b room h =
       on_running_lem m h λ l run h.
       by_row m h tt λ fits d.
       stay m d.after (ok_harmless a (rp.Sent d.packet) d.answer)
 
-  hear-next : (b : ℕ) (bytes : List ℕ) → ((from round : ℕ) (ts : List Ticket) → Accepted a → IsPacket n bytes from round ts → Each V' ts) → HearDoes w b bytes a w' → Next V' n w a w'
-  hear-next b bytes new h =
+  hear_next : (b : ℕ) (bytes : List ℕ) → ((from round : ℕ) (ts : List Ticket) → Accepted a → IsPacket n bytes from round ts → Each V' ts) → HearDoes w b bytes a w' → Next V' n w a w'
+  hear_next b bytes new h =
       on_running_lem m h λ l run h.
       elim h [
         | inl d ↦ stay m d.refusal.1 (subst Harmless (sym d.refusal.0) refl)
@@ -150,7 +150,7 @@ module _ {V V' : Ticket → Type 0} {n : ℕ} {w w' : World} {a : Answer} (m : M
             let x : Bed = bed w b in
             let ts : List Ticket = d.tickets in
             let p : IsPacket n bytes d.from d.round ts = subst (λ k. IsPacket k bytes d.from d.round ts) m.good.size d.packet in
-            let s = old-set b run in
+            let s = old_set b run in
             same_round m b l run (ok_harmless a _ d.answer) (hearing x d.round ts) d.after refl refl refl
             (record {
               sound = hear_laws.sound n x.queue x.waiting ts p.sound.sound.ranged s.sound;
@@ -158,8 +158,8 @@ module _ {V V' : Ticket → Type 0} {n : ℕ} {w w' : World} {a : Answer} (m : M
             })
       ]
 
-  proposing-next : (b : ℕ) (rest : Outcome) → proposing w b rest a w' → (b < n → Running w b → (bed w b).phase ≡ Idle → (bed w b).round < round_count → rest a w' → Next V' n w a w') → Next V' n w a w'
-  proposing-next b rest h k =
+  proposing_next : (b : ℕ) (rest : Outcome) → proposing w b rest a w' → (b < n → Running w b → (bed w b).phase ≡ Idle → (bed w b).round < round_count → rest a w' → Next V' n w a w') → Next V' n w a w'
+  proposing_next b rest h k =
       let x : Bed = bed w b in
       on_running_lem m h λ l run h.
       by_row m h tt λ idle h.
@@ -170,20 +170,20 @@ module _ {V V' : Ticket → Type 0} {n : ℕ} {w w' : World} {a : Answer} (m : M
   -- what an idle bed keeps, whole or torn
   module _ (b : ℕ) (l : b < n) (run : Running w b) (idle : (bed w b).phase ≡ Idle) (left : (bed w b).round < round_count) where
     own : Batch V' n (own_batch (bed w b))
-    own = own_batch_lem V' n (bed w b) (old-set b run)
+    own = own_batch_lem V' n (bed w b) (old_set b run)
 
-    own-slot : Slot V' n b (bed w b).round (w.kept b) w.board.decision (own_batch (bed w b))
-    own-slot = record { bed_in = l; round_in = left; batch = own; ordered = (m.good.bed b run).passed }
+    own_slot : Slot V' n b (bed w b).round (w.kept b) w.board.decision (own_batch (bed w b))
+    own_slot = record { bed_in = l; round_in = left; batch = own; ordered = (m.good.bed b run).passed }
 
     kept_store : Fills w.kept b (bed w b).round (own_batch (bed w b)) w'.kept → Store V' n w'.kept w.board
-    kept_store f = fills_store V' n w.kept w'.kept w.board b (bed w b).round (own_batch (bed w b)) f own-slot old-store
+    kept_store f = fills_store V' n w.kept w'.kept w.board b (bed w b).round (own_batch (bed w b)) f own_slot old_store
 
-    kept-others : Fills w.kept b (bed w b).round (own_batch (bed w b)) w'.kept → (c : ℕ) → (c ≡ b → ⊥) → (k : ℕ) → w'.kept c k ≡ w.kept c k
-    kept-others f c d k = f.elsewhere c k (λ e z. d e)
+    kept_others : Fills w.kept b (bed w b).round (own_batch (bed w b)) w'.kept → (c : ℕ) → (c ≡ b → ⊥) → (k : ℕ) → w'.kept c k ≡ w.kept c k
+    kept_others f c d k = f.elsewhere c k (λ e z. d e)
 
-  propose-next : (b : ℕ) → ProposeDoes w b a w' → Next V' n w a w'
-  propose-next b h =
-      proposing-next b (row w (HoldsOther w b) (rf.Memory mr.Differs) (Proposes w b)) h λ l run idle left h.
+  propose_next : (b : ℕ) → ProposeDoes w b a w' → Next V' n w a w'
+  propose_next b h =
+      proposing_next b (row w (HoldsOther w b) (rf.Memory mr.Differs) (Proposes w b)) h λ l run idle left h.
       elim h [
         | inl d ↦ absurd (not_none (w.kept b (bed w b).round) d.0.old d.0.held ((m.good.bed b run).idle idle))
         | inr d ↦ go l run idle left d.1
@@ -204,7 +204,7 @@ module _ {V V' : Ticket → Type 0} {n : ℕ} {w w' : World} {a : Answer} (m : M
           (record {
             beds = p.beds;
             own = grow;
-            others = kept-others b l run idle left f;
+            others = kept_others b l run idle left f;
             decisions = gd;
             store = put_store V' n m.most w'.kept w.board b r v p.put_answer w'.board holds p.puts (kept_store b l run idle left f);
             here = λ z. record {
@@ -214,14 +214,14 @@ module _ {V V' : Ticket → Type 0} {n : ℕ} {w w' : World} {a : Answer} (m : M
               waiting = λ y. (left, is_some (w'.kept b r) v holds);
               ahead = λ k j. p.keeps.elsewhere b k (λ e y. omega arith) ∙ old.ahead k j;
               idle = λ y. absurd (idle_waits (sym y));
-              set = old-set b run;
+              set = old_set b run;
             };
             went = λ z. inl (run, omega arith);
           })
 
-  trip-next : (named b «at» : ℕ) → TripDoes named w b «at» a w' → Next V' n w a w'
-  trip-next named b «at» h =
-      proposing-next b (Trips named w b «at») h λ l run idle left p.
+  trip_next : (named b «at» : ℕ) → TripDoes named w b «at» a w' → Next V' n w a w'
+  trip_next named b «at» h =
+      proposing_next b (Trips named w b «at») h λ l run idle left p.
       let x : Bed = bed w b in
       let r : ℕ = x.round in
       let v : List ℕ = own_batch x in
@@ -232,26 +232,26 @@ module _ {V V' : Ticket → Type 0} {n : ℕ} {w w' : World} {a : Answer} (m : M
       (record {
         beds = p.beds;
         own = fills_grow w.kept b r v w'.kept f b;
-        others = kept-others b l run idle left f;
+        others = kept_others b l run idle left f;
         decisions = λ k u e. ap (λ (s : Board). s.decision k) p.board ∙ e;
         store = subst (Store V' n w'.kept) (sym p.board) (kept_store b l run idle left f);
         here = λ z. absurd (z refl);
         went = λ z. absurd (z refl);
       })
 
-  collect-next : (b : ℕ) → CollectDoes w b a w' → Next V' n w a w'
-  collect-next b h =
+  collect_next : (b : ℕ) → CollectDoes w b a w' → Next V' n w a w'
+  collect_next b h =
       on_running_lem m h λ l run h.
       by_row m h tt λ waits p.
       go l run (waiting_from (bed w b).phase run waits) p.kept (settles_grow w.board (bed w b).round w'.board p.polls.settles)
-      (subst (λ slots. Store V' n slots w'.board) (sym p.kept) (poll_store V' n w.kept w.board (bed w b).round p.poll_answer w'.board p.polls old-store)) p.outcome
+      (subst (λ slots. Store V' n slots w'.board) (sym p.kept) (poll_store V' n w.kept w.board (bed w b).round p.poll_answer w'.board p.polls old_store)) p.outcome
     where
       x : Bed
       x = bed w b
 
       go : b < n → Running w b → x.phase ≡ Waiting → w'.kept ≡ w.kept → Grow w.board.decision w'.board.decision → Store V' n w'.kept w'.board → Collected w b a w' → Next V' n w a w'
       go l run waits kept gd st (Collected.undecided none answer beds) = still m beds kept gd st (subst Harmless (sym answer) tt)
-      go l run waits kept gd st (Collected.bad-decided v f d bad answer beds) =
+      go l run waits kept gd st (Collected.bad_decided v f d bad answer beds) =
           absurd (batch_not_faulty V' n v f m.most (decided_batch V' n w'.kept w'.board st x.round v d) (subst (λ k. batch_of k v ≡ Err f) m.good.size bad))
       go l run waits kept gd st (Collected.decided v ts d good answer beds) =
           let r : ℕ = x.round in
@@ -283,8 +283,8 @@ module _ {V V' : Ticket → Type 0} {n : ℕ} {w w' : World} {a : Answer} (m : M
             went = λ z. inl (run, omega arith);
           })
 
-  start-next : (b : ℕ) → StartDoes w b a w' → Next V' n w a w'
-  start-next b h =
+  start_next : (b : ℕ) → StartDoes w b a w' → Next V' n w a w'
+  start_next b h =
       by_row m h tt λ in_group h.
       by_row m h tt λ off p.
       let s = start_starts V n w b a w' m.most m.good p in
@@ -303,11 +303,11 @@ module _ {V V' : Ticket → Type 0} {n : ℕ} {w w' : World} {a : Answer} (m : M
 
 -- any call
 pub step : (named : ℕ) {V V' : Ticket → Type 0} {n : ℕ} {w w' : World} {a : Answer} → Made V V' n w a w' → (c : Call) → Feeds V' n c a → Does named w c a w' → Next V' n w a w'
-step named m (call.Start b) f h = start-next m b h
-step named m (call.Submit b number paths sheet) f h = submit-next m b number paths sheet (f.submitted b number paths sheet refl) h
-step named m (call.Send b room) f h = send-next m b room h
-step named m (call.Hear b bytes) f h = hear-next m b bytes.now (λ from round ts acc p. f.heard bytes.now from round ts refl acc p) h
-step named m (call.Propose b) f h = propose-next m b h
-step named m (call.Trip b «at» junk) f h = trip-next m named b «at» h
-step named m (call.Collect b) f h = collect-next m b h
+step named m (call.Start b) f h = start_next m b h
+step named m (call.Submit b number paths sheet) f h = submit_next m b number paths sheet (f.submitted b number paths sheet refl) h
+step named m (call.Send b room) f h = send_next m b room h
+step named m (call.Hear b bytes) f h = hear_next m b bytes.now (λ from round ts acc p. f.heard bytes.now from round ts refl acc p) h
+step named m (call.Propose b) f h = propose_next m b h
+step named m (call.Trip b «at» junk) f h = trip_next m named b «at» h
+step named m (call.Collect b) f h = collect_next m b h
 step named m (call.Off b) f h = off_next m b h

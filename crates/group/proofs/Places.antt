@@ -96,8 +96,8 @@ row_place t row len p l k u s =
 pub row_unknown : (t : Ticket) (row : List Ticket) (p : ℕ) → p < length row → known t (take p row) ≡ false → false ≡ same_identity (get_or row p none) t → known t (take (p + 1) row) ≡ false
 row_unknown t row p l u s = unknown_more t row p l u (sym s)
 
-pub row-none : (t : Ticket) (row : List Ticket) (len p : ℕ) → len ≤ p → p ≤ len → known t (take p row) ≡ false → None ≡ place_of t (take len row)
-row-none t row len p l k u = let e : p ≡ len = omega arith in sym (place_none t (take len row) (ap (λ j. known t (take j row)) (sym e) ∙ u))
+pub row_none : (t : Ticket) (row : List Ticket) (len p : ℕ) → len ≤ p → p ≤ len → known t (take p row) ≡ false → None ≡ place_of t (take len row)
+row_none t row len p l k u = let e : p ≡ len = omega arith in sym (place_none t (take len row) (ap (λ j. known t (take j row)) (sym e) ∙ u))
 
 pub row_further : (t : Ticket) (row : List Ticket) (len p : ℕ) → len ≤ length row → p < len → false ≡ stands_before t (get_or row p none) →
     placed t (take len row) ≡ take p (take len row) ++ placed t (drop p (take len row)) → placed t (take len row) ≡ take (p + 1) (take len row) ++ placed t (drop (p + 1) (take len row))
@@ -138,9 +138,9 @@ pub row_keeps : (test : Ticket → Bool) (row old : List Ticket) (left p : ℕ) 
     test (get_or row p none) ≡ true → (take (left + 1) (set row left (get_or row p none)) ≡ passing test (take (p + 1) old)) × (drop (p + 1) (set row left (get_or row p none)) ≡ drop (p + 1) old)
 row_keeps test row old left p l in_row kept rest e =
     let same = same_read row old p rest in
-    let in-old = same_within row old p in_row rest in (
+    let in_old = same_within row old p in_row rest in (
       take_more_set row left (get_or row p none) (omega arith) ∙ ap (λ q. q ++ get_or row p none ∷ []) kept ∙ ap (λ x. passing test (take p old) ++ x ∷ []) same
-          ∙ sym (passing_more test old p in-old (ap test (sym same) ∙ e)),
+          ∙ sym (passing_more test old p in_old (ap test (sym same) ∙ e)),
       drop-set-lt (p + 1) row left (get_or row p none) (omega arith) ∙ same_rest row old p rest,
     )
 
@@ -163,11 +163,11 @@ row_moves row old len end e one most room front rest =
     let y = get_or row e none in
     let read : y ≡ get_or (take len old) e none =
     sym (get_or-take end row e none (omega arith)) ∙ ap (λ l. get_or l e none) front ∙ get_or-take end old e none (omega arith) ∙ sym (get_or-take len old e none (omega arith)) in
-    let in-old : e < length (take len old) = omega (arith, ap length front, length-take end row, length-take end old, length-take len old) in (
+    let in_old : e < length (take len old) = omega (arith, ap length front, length-take end row, length-take end old, length-take len old) in (
       take-set-le e row end y (omega arith) ∙ sym (take-take e end row (omega arith)) ∙ ap (take e) front ∙ take-take e end old (omega arith),
       ap (drop (e + 1)) (take-set-lt (len + 1) row end y (omega arith)) ∙ ap (λ k. drop k (set (take (len + 1) row) end y)) (sym one)
           ∙ drop-set (take (len + 1) row) end y (omega (arith, length-take (len + 1) row)) ∙ ap (λ l. y ∷ l) rest ∙ ap (λ k. y ∷ drop k (take len old)) one
-          ∙ ap (λ x. x ∷ drop (e + 1) (take len old)) read ∙ sym (drop_more (take len old) e none in-old),
+          ∙ ap (λ x. x ∷ drop (e + 1) (take len old)) read ∙ sym (drop_more (take len old) e none in_old),
     )
 
 -- the new ticket comes into the gap

@@ -49,8 +49,8 @@ module _ (t : Table) (m : Slots) (s : Board) (b : ℕ) (p : Proposal) (on : Prop
   round_is : (bed (world_of t m s) b).round ≡ p.round
   round_is = ap (λ (x : Bed). x.round) shows ∙ sym on.round
 
-  batch-is : value_bytes p.batch ≡ own_batch (bed (world_of t m s) b)
-  batch-is = on.batch ∙ ap own_batch (sym shows)
+  batch_is : value_bytes p.batch ≡ own_batch (bed (world_of t m s) b)
+  batch_is = on.batch ∙ ap own_batch (sym shows)
 
   within : Within b p.round (length (value_bytes p.batch))
   within = record {
@@ -85,7 +85,7 @@ module _ (t : Table) (m : Slots) (s : Board) (b : ℕ) (p : Proposal) (on : Prop
             let d : old ≡ value_bytes p.batch → ⊥ = λ x. ok_err a tt e ((k.inside within).again (y.1 ∙ ap Some x)) f in
             record {
               differs = same_err a e mr.Differs f ((k.inside within).differs old y.1 d);
-              other = record { old = old; held = ap (m b) round_is ∙ y.1; differs = λ x. d (x ∙ sym batch-is) };
+              other = record { old = old; held = ap (m b) round_is ∙ y.1; differs = λ x. d (x ∙ sym batch_is) };
               same = same_slots m m' (λ c j.
                   elim (cases_place b p.round c j) [
                     | inl q ↦ at_place m' b p.round c j q ∙ k.stays old y.1 ∙ sym y.1 ∙ sym (at_place m b p.round c j q)
@@ -107,23 +107,23 @@ module _ (t : Table) (m : Slots) (s : Board) (b : ℕ) (p : Proposal) (on : Prop
       (inr (
         (λ h. free h),
         record {
-          keeps = subst (λ r. Keeps m b r (own_batch (bed (world_of t m s) b)) (Ok tt) m') (sym round_is) (subst (λ v. Keeps m b p.round v (Ok tt) m') batch-is (subst (λ x. Keeps m b p.round (value_bytes p.batch) x m') ok k));
+          keeps = subst (λ r. Keeps m b r (own_batch (bed (world_of t m s) b)) (Ok tt) m') (sym round_is) (subst (λ v. Keeps m b p.round v (Ok tt) m') batch_is (subst (λ x. Keeps m b p.round (value_bytes p.batch) x m') ok k));
           put_answer = o;
-          puts = subst (λ r. Puts s b r (own_batch (bed (world_of t m s) b)) o s') (sym round_is) (subst (λ v. Puts s b p.round v o s') batch-is put);
+          puts = subst (λ r. Puts s b r (own_batch (bed (world_of t m s) b)) o s') (sym round_is) (subst (λ v. Puts s b p.round v o s') batch_is put);
           beds = beds ∙ ap (λ i. set (beds_of t) i (waiting_now (get_or (beds_of t) i off_bed))) on.index;
           answer = refl;
         },
       ))
     where
       free : HoldsOther (world_of t m s) b → ⊥
-      free h = ok_err a tt mr.Differs ok ((k.inside within).differs h.old (sym (ap (m b) round_is) ∙ h.held) (λ x. h.differs (x ∙ batch-is)))
+      free h = ok_err a tt mr.Differs ok ((k.inside within).differs h.old (sym (ap (m b) round_is) ∙ h.held) (λ x. h.differs (x ∙ batch_is)))
 
   -- a torn keep, and the bed is off
   pub trip_done : (named «at» : ℕ) (m' : Slots) (t' : Table) → Tears named m b p.round (value_bytes p.batch) «at» m' → beds_of t' ≡ set (beds_of t) p.index off_bed → TripDoes named (world_of t m s) b «at» (Ok Done) (world_of t' m' s)
   trip_done named «at» m' t' k beds =
       rows (Ok Done) (world_of t' m' s)
       (record {
-        tears = subst (λ r. Tears named m b r (own_batch (bed (world_of t m s) b)) «at» m') (sym round_is) (subst (λ v. Tears named m b p.round v «at» m') batch-is k);
+        tears = subst (λ r. Tears named m b r (own_batch (bed (world_of t m s) b)) «at» m') (sym round_is) (subst (λ v. Tears named m b p.round v «at» m') batch_is k);
         board = refl;
         beds = beds ∙ ap (λ i. set (beds_of t) i off_bed) on.index;
         answer = refl;

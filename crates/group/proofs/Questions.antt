@@ -41,8 +41,8 @@ module _ {A : Type 0} (t : Table) (kept : Slots) (board : Board) (b : ℕ) (x : 
   pub inside : b < t.size.count → x ≡ of_group world b x
   inside l = sym (cond-false (leb (size world) b) (Err rf.NoBed) x (lt-leb (size world) b (omega (arith, l, table_size t))))
 
-  phase-of : b < t.size.count → (bed world b).phase ≡ (record_of t b).phase
-  phase-of l = ap (λ (y : Bed). y.phase) (table_bed t b no_record l)
+  phase_of : b < t.size.count → (bed world b).phase ≡ (record_of t b).phase
+  phase_of l = ap (λ (y : Bed). y.phase) (table_bed t b no_record l)
 
 module _ {A : Type 0} (t : Table) (kept : Slots) (board : Board) (b : ℕ) (x : Result A Refusal) where
   pub not_running : (e : Refusal) → Err e ≡ admission t b ev.Use → Err e ≡ of_running (world_of t kept board) b x
@@ -50,15 +50,15 @@ module _ {A : Type 0} (t : Table) (kept : Slots) (board : Board) (b : ℕ) (x : 
     | inl p ↦ ap Err p.1 ∙ outside t kept board b _ p.0
     | inr p ↦
         let o = off_only (record_of t b).phase ev.Use e (inl refl) p.1 in
-        let off = ap is_off (phase-of t kept board b x p.0 ∙ o.0) in
+        let off = ap is_off (phase_of t kept board b x p.0 ∙ o.0) in
         ap Err o.1 ∙ sym (cond-true (is_off (bed (world_of t kept board) b).phase) (Err rf.BedOff) x off) ∙ inside t kept board b _ p.0
   ]
 
   pub running : (i : ℕ) → Admitted t b i → x ≡ of_running (world_of t kept board) b x
   running i on =
-      sym (cond-false (is_off (bed (world_of t kept board) b).phase) (Err rf.BedOff) x (ap is_off (phase-of t kept board b x on.low) ∙ running_phase (record_of t b).phase on.on))
+      sym (cond-false (is_off (bed (world_of t kept board) b).phase) (Err rf.BedOff) x (ap is_off (phase_of t kept board b x on.low) ∙ running_phase (record_of t b).phase on.on))
       ∙ inside t kept board b _ on.low
 
 -- the record at the place that was admitted
-pub admitted-bed : (t : Table) (kept : Slots) (board : Board) (b i : ℕ) → Admitted t b i → bed_of (record_of t i) ≡ bed (world_of t kept board) b
-admitted-bed t kept board b i on = ap (λ k. bed_of (record_of t k)) on.place ∙ sym (table_bed t b no_record on.low)
+pub admitted_bed : (t : Table) (kept : Slots) (board : Board) (b i : ℕ) → Admitted t b i → bed_of (record_of t i) ≡ bed (world_of t kept board) b
+admitted_bed t kept board b i on = ap (λ k. bed_of (record_of t k)) on.place ∙ sym (table_bed t b no_record on.low)

@@ -22,7 +22,7 @@ use Rattle.group.proofs.Stores.{AllPast, past_grow}
 use Rattle.group.proofs.Replays.{First, Stands, idle_runs, waiting_runs}
 use Rattle.group.proofs.Steps.{Good, Next}
 use Rattle.group.proofs.Moves.{Started, start_starts, ok_accepted}
-use Rattle.group.proofs.Runs.{Any, new_good, lived_split, run_good, event_next, after-append}
+use Rattle.group.proofs.Runs.{Any, new_good, lived_split, run_good, event_next, after_append}
 
 -- ---- the queue that a bed last had
 
@@ -70,18 +70,18 @@ last_now n w b last g l = go (bed w b).phase refl
     go Waiting e = shows (λ f. waiting_runs (sym e ∙ f))
 
 module _ (named n : ℕ) (most : n ≤ max_beds) where
-  last-run : (h : History) (w w' : World) (b : ℕ) (last : List Ticket) → Good Any n w → LastAt n w b last → Lived named w h w' → LastAt n (after w h) b (last_queue b last h)
-  last-run [] w w' b last g l li = l
-  last-run (e ∷ h) w w' b last g l li =
+  last_run : (h : History) (w w' : World) (b : ℕ) (last : List Ticket) → Good Any n w → LastAt n w b last → Lived named w h w' → LastAt n (after w h) b (last_queue b last h)
+  last_run [] w w' b last g l li = l
+  last_run (e ∷ h) w w' b last g l li =
       let s = event_next named n most e w g li.0 li.1 in
-      last-run h e.after w' b (queue_or (bed e.after b) last) s.good (last_now n e.after b last s.good (last_next n w e.after e.answer b last s l)) li.2
+      last_run h e.after w' b (queue_or (bed e.after b) last) s.good (last_now n e.after b last s.good (last_next n w e.after e.answer b last s l)) li.2
 
   -- and it stays so after more calls
-  last-stays : (h : History) (w w' : World) (b : ℕ) (last : List Ticket) → Good Any n w → LastAt n w b last → Lived named w h w' → LastAt n (after w h) b last
-  last-stays [] w w' b last g l li = l
-  last-stays (e ∷ h) w w' b last g l li =
+  last_stays : (h : History) (w w' : World) (b : ℕ) (last : List Ticket) → Good Any n w → LastAt n w b last → Lived named w h w' → LastAt n (after w h) b last
+  last_stays [] w w' b last g l li = l
+  last_stays (e ∷ h) w w' b last g l li =
       let s = event_next named n most e w g li.0 li.1 in
-      last-stays h e.after w' b last s.good (last_next n w e.after e.answer b last s l) li.2
+      last_stays h e.after w' b last s.good (last_next n w e.after e.answer b last s l) li.2
 
 -- ---- a start
 
@@ -140,7 +140,7 @@ recovery named w₀ h w new l past rest e eq b call low off =
     let g₀ = new_good Any w₀ new in
     let ge : Good Any n e.before = subst (Good Any n) (sym s.1.0) (run_good named n new.most past w₀ u g₀ s.0).1 in
     let la : LastAt n e.before b (last_queue b [] past) =
-    subst (λ v. LastAt n v b (last_queue b [] past)) (sym s.1.0) (last-run named n new.most past w₀ u b [] g₀ (never n w₀ b) s.0) in
+    subst (λ v. LastAt n v b (last_queue b [] past)) (sym s.1.0) (last_run named n new.most past w₀ u b [] g₀ (never n w₀ b) s.0) in
     let starts = start_of e.before b e.answer e.after low off (subst (λ c. Does named e.before c e.answer e.after) call s.1.1) in
     let st = start_starts Any n e.before b e.answer e.after new.most ge starts in
     (ok_accepted e.answer rp.Done st.done, recovered n e.before e.after b e.answer (last_queue b [] past) ge (subst (λ k. b < k) ge.size low) la st)
@@ -162,8 +162,8 @@ lasting named w₀ h w new l past between rest e b =
     let v = after u between in
     let gv = (run_good named n new.most between u v gu s₂.0).1 in
     let la : LastAt n v b (last_queue b [] past) =
-    last-stays named n new.most between u v b (last_queue b [] past) gu (last-run named n new.most past w₀ u b [] g₀ (never n w₀ b) s.0) s₂.0 in
-    subst (λ (x : World). Running x b → Begins (bed x b).queue (last_queue b [] past)) (sym (after-append w₀ past between))
+    last_stays named n new.most between u v b (last_queue b [] past) gu (last_run named n new.most past w₀ u b [] g₀ (never n w₀ b) s.0) s₂.0 in
+    subst (λ (x : World). Running x b → Begins (bed x b).queue (last_queue b [] past)) (sym (after_append w₀ past between))
     (λ run.
     let m = delivered_more n v.board.decision la.rounds (bed v b).round (la.reached run) in
     (m.0, (gv.bed b run).queue ∙ m.1 ∙ ap (λ q. q ++ m.0) (sym la.shown)))

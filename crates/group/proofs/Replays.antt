@@ -100,9 +100,9 @@ batch_not_faulty V n v f most b e = not_faulty n v b.tickets f most b.sound e
 
 module _ (V : Ticket → Type 0) (n : ℕ) (most : n ≤ max_beds) (K : Slots) (b : ℕ) where
   -- an idle end in an empty slot or past all rounds
-  idle-ends : (r : ℕ) (q : List Ticket) (s : Board) → Store V n K s → r ≤ round_count → q ≡ delivered n s.decision r → AllPast (K b) s.decision r →
+  idle_ends : (r : ℕ) (q : List Ticket) (s : Board) → Store V n K s → r ≤ round_count → q ≡ delivered n s.decision r → AllPast (K b) s.decision r →
       K b r ≡ None → First (K b) s.decision r → Ends V n K b s (Ok (started Idle r q)) s
-  idle-ends r q s st l e p none first =
+  idle_ends r q s st l e p none first =
       record {
         store = st;
         grows = λ k v f. f;
@@ -147,10 +147,10 @@ module _ (V : Ticket → Type 0) (n : ℕ) (most : n ≤ max_beds) (K : Slots) (
 
   pub replay_ends : {r : ℕ} {q : List Ticket} {s : Board} {end : Result Bed Refusal} {s' : Board} → Replay n (K b) b r q s end s' →
       Store V n K s → r ≤ round_count → q ≡ delivered n s.decision r → AllPast (K b) s.decision r → Ends V n K b s end s'
-  replay_ends (Replay.over {queue = q} {s}) st l e p = idle-ends round_count q s st l e p (none_over s st) (inl refl)
+  replay_ends (Replay.over {queue = q} {s}) st l e p = idle_ends round_count q s st l e p (none_over s st) (inl refl)
   replay_ends (Replay.empty {round = r} {queue = q} {s} h z) st l e p =
-      idle-ends r q s st l e p z (inr (h, λ x. let y = some_of (K b r) x.0 in not_none (K b r) y.0 y.1 z))
-  replay_ends (Replay.bad-kept {round = r} {queue = q} {s} v f h k z) st l e p = absurd (batch_not_faulty V n v f most (st.slots b r v k).batch z)
+      idle_ends r q s st l e p z (inr (h, λ x. let y = some_of (K b r) x.0 in not_none (K b r) y.0 y.1 z))
+  replay_ends (Replay.bad_kept {round = r} {queue = q} {s} v f h k z) st l e p = absurd (batch_not_faulty V n v f most (st.slots b r v k).batch z)
   replay_ends (Replay.undecided {round = r} {queue = q} {s} {s'} h z) st l e p =
       let o = polled r s s' st h in
       let first : First (K b) s'.decision r = inr (h.left, λ x. let y = some_of (s'.decision r) x.1 in not_none (s'.decision r) y.0 y.1 z) in
@@ -172,7 +172,7 @@ module _ (V : Ticket → Type 0) (n : ℕ) (most : n ≤ max_beds) (K : Slots) (
         first = first;
         stands = record { waits = λ v k. (refl, o.full v k, z); idles = λ k. absurd (not_none (K b r) h.bytes h.full k) };
       }
-  replay_ends (Replay.bad-decided {round = r} {queue = q} {s} {s'} v f h d z) st l e p =
+  replay_ends (Replay.bad_decided {round = r} {queue = q} {s} {s'} v f h d z) st l e p =
       let o = polled r s s' st h in
       absurd (batch_not_faulty V n v f most (decided_batch V n K s' o.store r v d) z)
   replay_ends (Replay.next {round = r} {queue = q} {s} {s'} {s''} {end} v ts h d good more) st l e p =

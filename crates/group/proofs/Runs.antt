@@ -40,9 +40,9 @@ new_good V w f =
 
 -- ---- histories
 
-pub after-append : (w : World) (g h : History) → after w (g ++ h) ≡ after (after w g) h
-after-append w [] h = refl
-after-append w (e ∷ g) h = after-append e.after g h
+pub after_append : (w : World) (g h : History) → after w (g ++ h) ≡ after (after w g) h
+after_append w [] h = refl
+after_append w (e ∷ g) h = after_append e.after g h
 
 pub lived_split : (named : ℕ) (g h : History) (w w' : World) → Lived named w (g ++ h) w' → Lived named w g (after w g) × Lived named (after w g) h w'
 lived_split named [] h w w' l = (refl, l)
@@ -88,7 +88,7 @@ moments named w₀ h w new l past between rest e =
     let gu = (run_good named n new.most past w₀ u (new_good Any w₀ new) s.0).1 in
     let s₂ = lived_split named between rest u w s.1 in
     let r = run_good named n new.most between u (after u between) gu s₂.0 in
-    subst (Between n u) (sym (after-append w₀ past between)) (record { earlier = gu; later = r.1; grows = r.0 })
+    subst (Between n u) (sym (after_append w₀ past between)) (record { earlier = gu; later = r.1; grows = r.0 })
 
 -- one call of a history, and what stood before it
 pub record Moment (named n : ℕ) (e : Event) : Type 0 where

@@ -57,7 +57,7 @@ module _ (n : ℕ) (slots : ℕ → Option (List ℕ)) (b : ℕ) (r : BedRecord)
     replay_empty s z = subst (λ x. Replay n slots b r.round (queued_in r.queue) s (Ok x) s) (sym sound.bed) (Replay.empty left z)
 
     pub replay_bad_kept : (s : Board) (bytes : List ℕ) (f : WholeFault) → slots r.round ≡ Some bytes → batch_of n bytes ≡ Err f → Replay n slots b r.round (queued_in r.queue) s (Err (faulty f b r.round so.Memory)) s
-    replay_bad_kept s bytes f full bad = Replay.bad-kept bytes f left full bad
+    replay_bad_kept s bytes f full bad = Replay.bad_kept bytes f left full bad
 
     -- the kept batch put and its round polled
     pub proposed : (s : Board) (bytes : List ℕ) (ts : List Ticket) (o : Result PutAnswer DecisionRefusal) (s₁ : Board) (p : Result Value DecisionRefusal) (s₂ : Board) → slots r.round ≡ Some bytes → IsBatch n bytes ts →
@@ -83,20 +83,20 @@ module _ (n : ℕ) (slots : ℕ → Option (List ℕ)) (b : ℕ) (r : BedRecord)
 
     pub replay_bad_decided : (s s₂ : Board) (bytes : List ℕ) (f : WholeFault) → Proposed n b r.round (slots r.round) s s₂ → s₂.decision r.round ≡ Some bytes → batch_of n bytes ≡ Err f →
         Replay n slots b r.round (queued_in r.queue) s (Err (faulty f b r.round so.Service)) s₂
-    replay_bad_decided s s₂ bytes f p d bad = Replay.bad-decided bytes f p d bad
+    replay_bad_decided s s₂ bytes f p d bad = Replay.bad_decided bytes f p d bad
 
     -- the decided batch comes into the queue
     module _ (ts : List Ticket) (r' : BedRecord) (h : CollectsBatch ts r r') where
       pub next_round : r'.round ≡ suc r.round
       next_round = ap (λ (x : Bed). x.round) h.bed ∙ add-one r.round
 
-      queue-is : queued_in r'.queue ≡ append (queued_in r.queue) ts
-      queue-is = ap (λ (x : Bed). x.queue) h.bed
+      queue_is : queued_in r'.queue ≡ append (queued_in r.queue) ts
+      queue_is = ap (λ (x : Bed). x.queue) h.bed
 
       pub replay_next : (s s₂ : Board) (bytes : List ℕ) → Proposed n b r.round (slots r.round) s s₂ → s₂.decision r.round ≡ Some bytes → IsBatch n bytes ts → From n slots b r s r' s₂
       replay_next s s₂ bytes p d batch end s₃ more =
           Replay.next bytes ts p d batch
-          (subst (λ q. Replay n slots b (suc r.round) q s₂ end s₃) queue-is (subst (λ k. Replay n slots b k (queued_in r'.queue) s₂ end s₃) next_round more))
+          (subst (λ q. Replay n slots b (suc r.round) q s₂ end s₃) queue_is (subst (λ k. Replay n slots b k (queued_in r'.queue) s₂ end s₃) next_round more))
 
       pub next_sound : length ts ≤ batch_tickets → StartSound r'
       next_sound few =
@@ -104,7 +104,7 @@ module _ (n : ℕ) (slots : ℕ → Option (List ℕ)) (b : ℕ) (r : BedRecord)
           record {
             bed =
                 h.bed ∙ ap (λ (x : Bed). collected x ts) sound.bed ∙ ap (λ k. started Idle k (append (queued_in r.queue) ts)) (add-one r.round ∙ sym next_round)
-                ∙ ap (started Idle r'.round) (sym queue-is);
+                ∙ ap (started Idle r'.round) (sym queue_is);
             set_room = h.set_room ∙ sound.set_room;
             set_len = zero;
             queue_room = h.queue_room ∙ sound.queue_room;
@@ -127,8 +127,8 @@ accepts Waiting p h = let z : ◌≡◌ {A = ℕ} 0 1 = cc in absurd (omega arit
 pub admits_off : (t : Table) (b i : ℕ) (p : Phase) → Ok (i, p) ≡ admission t b ev.Start → (i ≡ b) × (b < t.size.count) × ((record_of t b).phase ≡ Off)
 admits_off t b i p h = let a = admit_accepts t b ev.Start i p h in (a.0, a.1, accepts (record_of t b).phase p a.2)
 
-pub start-refused : (t : Table) (kept : Slots) (board : Board) (b : ℕ) (e : Refusal) → Err e ≡ admission t b ev.Start → starting (world_of t kept board) b (λ _ _. ⊥) (Err e) (world_of t kept board)
-start-refused t kept board b e h =
+pub start_refused : (t : Table) (kept : Slots) (board : Board) (b : ℕ) (e : Refusal) → Err e ≡ admission t b ev.Start → starting (world_of t kept board) b (λ _ _. ⊥) (Err e) (world_of t kept board)
+start_refused t kept board b e h =
     elim (admit_refuses t b ev.Start e h) [
       | inl p ↦ inl (omega (arith, table_size t, p.0), (ap Err p.1, refl))
       | inr p ↦
@@ -172,6 +172,6 @@ module _ (t : Table) (m : Slots) (s : Board) (b : ℕ) (low : b < t.size.count) 
   pub start_fails : (e : Refusal) (s' : Board) → Replay t.size.count (m b) b 0 [] s (Err e) s' → StartDoes (world_of t m s) b (Err e) (world_of t m s')
   start_fails e s' h = rows (Err e) (world_of t m s') (record { kept = refl; end = Err e; replay = sized (Err e) s' h; ends = (refl, refl) })
 
-  pub start-done : (x : Bed) (i : ℕ) (s' : Board) (t' : Table) → i ≡ b → Replay t.size.count (m b) b 0 [] s (Ok x) s' → beds_of t' ≡ set (beds_of t) i x → StartDoes (world_of t m s) b (Ok Done) (world_of t' m s')
-  start-done x i s' t' e h beds =
+  pub start_done : (x : Bed) (i : ℕ) (s' : Board) (t' : Table) → i ≡ b → Replay t.size.count (m b) b 0 [] s (Ok x) s' → beds_of t' ≡ set (beds_of t) i x → StartDoes (world_of t m s) b (Ok Done) (world_of t' m s')
+  start_done x i s' t' e h beds =
       rows (Ok Done) (world_of t' m s') (record { kept = refl; end = Ok x; replay = sized (Ok x) s' h; ends = (refl, beds ∙ ap (λ k. set (beds_of t) k x) e) })

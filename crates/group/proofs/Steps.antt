@@ -102,9 +102,9 @@ pub record Made (V V' : Ticket → Type 0) (n : ℕ) (w : World) (a : Answer) (w
 
 module _ {V V' : Ticket → Type 0} {n : ℕ} {w w' : World} {a : Answer} (m : Made V V' n w a w') where
   -- the bed as it was, after a call of another
-  old-bed : (c : ℕ) → ((k : ℕ) → w'.kept c k ≡ w.kept c k) → Grow w.board.decision w'.board.decision → Running w c →
+  old_bed : (c : ℕ) → ((k : ℕ) → w'.kept c k ≡ w.kept c k) → Grow w.board.decision w'.board.decision → Running w c →
       BedGood V' n (w'.kept c) w'.board.decision (bed w c)
-  old-bed c same gd run = bed_grow V V' n (w.kept c) (w'.kept c) w.board.decision w'.board.decision (bed w c) m.more same gd (m.good.bed c run)
+  old_bed c same gd run = bed_grow V V' n (w.kept c) (w'.kept c) w.board.decision w'.board.decision (bed w c) m.more same gd (m.good.bed c run)
 
   pub change : (b : ℕ) → b < n → (x : Bed) → Harmless a → Changes V' n w w' b x → Next V' n w a w'
   change b l x ok ch =
@@ -129,25 +129,25 @@ module _ {V V' : Ticket → Type 0} {n : ℕ} {w w' : World} {a : Answer} (m : M
       at_c c d = ap (λ l. get_or l c off_bed) ch.beds ∙ get_or-set_other w.beds b c x off_bed d
 
       -- what holds of bed b and its x holds of each bed that is b
-      here-b : (P : ℕ → Bed → Type 0) → ((x.phase ≡ Off → ⊥) → P b x) → (c : ℕ) → c ≡ b → Running w' c → P c (bed w' c)
-      here-b P h c d run =
+      here_b : (P : ℕ → Bed → Type 0) → ((x.phase ≡ Off → ⊥) → P b x) → (c : ℕ) → c ≡ b → Running w' c → P c (bed w' c)
+      here_b P h c d run =
           subst (λ k. P k (bed w' k)) (sym d) (subst (P b) (sym at_b) (h (λ z. run (ap (λ k. (bed w' k).phase) d ∙ ap (λ (y : Bed). y.phase) at_b ∙ z))))
 
-      runs-c : (c : ℕ) → (c ≡ b → ⊥) → Running w' c → Running w c
-      runs-c c d run z = run (ap (λ (y : Bed). y.phase) (at_c c d) ∙ z)
+      runs_c : (c : ℕ) → (c ≡ b → ⊥) → Running w' c → Running w c
+      runs_c c d run z = run (ap (λ (y : Bed). y.phase) (at_c c d) ∙ z)
 
       goes : (c : ℕ) → Running w' c → Moves w w' c (bed w' c)
       goes c run =
           elim (cases_eq c b) [
-            | inl d ↦ here-b (Moves w w') ch.went c d run
-            | inr d ↦ inl (runs-c c d run, let r = ap (λ (y : Bed). y.round) (at_c c d) in omega arith)
+            | inl d ↦ here_b (Moves w w') ch.went c d run
+            | inr d ↦ inl (runs_c c d run, let r = ap (λ (y : Bed). y.round) (at_c c d) in omega arith)
           ]
 
       each : (c : ℕ) → Running w' c → BedGood V' n (w'.kept c) w'.board.decision (bed w' c)
       each c run =
           elim (cases_eq c b) [
-            | inl d ↦ here-b (λ k y. BedGood V' n (w'.kept k) w'.board.decision y) ch.here c d run
-            | inr d ↦ subst (BedGood V' n (w'.kept c) w'.board.decision) (sym (at_c c d)) (old-bed c (ch.others c d) ch.decisions (runs-c c d run))
+            | inl d ↦ here_b (λ k y. BedGood V' n (w'.kept k) w'.board.decision y) ch.here c d run
+            | inr d ↦ subst (BedGood V' n (w'.kept c) w'.board.decision) (sym (at_c c d)) (old_bed c (ch.others c d) ch.decisions (runs_c c d run))
           ]
 
   -- no bed changes, and no slot; a decision may have come
@@ -158,7 +158,7 @@ module _ {V V' : Ticket → Type 0} {n : ℕ} {w w' : World} {a : Answer} (m : M
         good = record {
           size = ap length e ∙ m.good.size;
           store = st;
-          bed = λ c run. subst (BedGood V' n (w'.kept c) w'.board.decision) (sym (same c)) (old-bed c (slots c) gd (runs c run));
+          bed = λ c run. subst (BedGood V' n (w'.kept c) w'.board.decision) (sym (same c)) (old_bed c (slots c) gd (runs c run));
         };
         moves = λ c run. inl (runs c run, let r = ap (λ (y : Bed). y.round) (same c) in omega arith);
         harmless = ok;

@@ -41,8 +41,8 @@ nothing b s = None
 abbrev w₀ : World
 w₀ = record { beds = off_bed ∷ off_bed ∷ []; kept = nothing; board = record { beds = 2; proposal = nothing; decision = λ r. None } }
 
-w₀-new : New w₀
-w₀-new = record { some = omega arith; most = omega arith; off = off; empty = λ b s. refl; board = record { size = refl; proposed = λ b r. refl; decided = λ r. refl } }
+w₀_new : New w₀
+w₀_new = record { some = omega arith; most = omega arith; off = off; empty = λ b s. refl; board = record { size = refl; proposed = λ b r. refl; decided = λ r. refl } }
   where
     off : (b : ℕ) → bed w₀ b ≡ off_bed
     off zero = refl
@@ -122,7 +122,7 @@ l₃ = tripped c₂ 0 nothing
 pub lost : Lost
 lost = record {
   first = w₀;
-  new = w₀-new;
+  new = w₀_new;
   beds = refl;
   history = event w₀ (call.Start 0) rp.Done c₁ ∷ event c₁ (call.Submit 0 7 300 2) (rp.Submitted job) c₂ ∷ event c₂ (call.Trip 0 3 0) rp.Done l₃ ∷ event l₃ (call.Start 0) rp.Done (freshly l₃ 0) ∷ [];
   last = freshly l₃ 0;
@@ -162,7 +162,7 @@ lives_on h w l = (
 pub saved : Saved
 saved = record {
   first = w₀;
-  new = w₀-new;
+  new = w₀_new;
   beds = refl;
   history = crashed;
   last = s₄;
@@ -192,7 +192,7 @@ serving = event s₄ (call.Start 1) rp.Done s₅ ∷ event s₅ (call.Submit 1 4
 pub served : Served
 served = record {
   first = w₀;
-  new = w₀-new;
+  new = w₀_new;
   beds = refl;
   history = crashed ++ serving;
   last = s₈;
@@ -233,17 +233,17 @@ cons_tail e f h g p = cc
 no_event : (e : Event) (h : History) {P : Type 0} → [] ≡ e ∷ h → P
 no_event e h p = let z : ◌≡◌ {A = ℕ} 0 1 = cc in absurd (omega arith)
 
-sent-before : (past todo : History) → AllSent past todo → (p rest : History) (e : Event) (bytes : List ℕ) → todo ≡ p ++ (e ∷ rest) → heard_bytes e.call ≡ Some bytes → Earlier (past ++ p) (WrittenBy bytes)
-sent-before past [] s [] rest e bytes eq h = no_event e rest eq
-sent-before past [] s (f ∷ p) rest e bytes eq h = no_event f (p ++ (e ∷ rest)) eq
-sent-before past (g ∷ todo) s [] rest e bytes eq h =
+sent_before : (past todo : History) → AllSent past todo → (p rest : History) (e : Event) (bytes : List ℕ) → todo ≡ p ++ (e ∷ rest) → heard_bytes e.call ≡ Some bytes → Earlier (past ++ p) (WrittenBy bytes)
+sent_before past [] s [] rest e bytes eq h = no_event e rest eq
+sent_before past [] s (f ∷ p) rest e bytes eq h = no_event f (p ++ (e ∷ rest)) eq
+sent_before past (g ∷ todo) s [] rest e bytes eq h =
     subst (λ k. Earlier k (WrittenBy bytes)) (sym (append-nil past)) (s.0 bytes (ap (λ (f : Event). heard_bytes f.call) (cons_head g e todo rest eq) ∙ h))
-sent-before past (g ∷ todo) s (f ∷ p) rest e bytes eq h =
+sent_before past (g ∷ todo) s (f ∷ p) rest e bytes eq h =
     subst (λ k. Earlier k (WrittenBy bytes)) (append_assoc past (g ∷ []) p ∙ ap (λ k. past ++ (k ∷ p)) (cons_head g f todo (p ++ (e ∷ rest)) eq))
-    (sent-before (past ++ g ∷ []) todo s.1 p rest e bytes (cons_tail g f todo (p ++ (e ∷ rest)) eq) h)
+    (sent_before (past ++ g ∷ []) todo s.1 p rest e bytes (cons_tail g f todo (p ++ (e ∷ rest)) eq) h)
 
 only_sent : (h : History) → AllSent [] h → OnlySentHeard h
-only_sent h s past rest e bytes eq heard acc = sent-before [] h s past rest e bytes eq heard
+only_sent h s past rest e bytes eq heard acc = sent_before [] h s past rest e bytes eq heard
 
 -- ---- a late bed
 
@@ -364,7 +364,7 @@ late = (
   lent (own_packet a₅ 0),
   record {
     first = w₀;
-    new = w₀-new;
+    new = w₀_new;
     beds = refl;
     history = late_history;
     last = a₈;
@@ -426,7 +426,7 @@ pub rivals : Rivals
 unfolding same_identity
 rivals = record {
   first = w₀;
-  new = w₀-new;
+  new = w₀_new;
   beds = refl;
   history =
       event w₀ (call.Start 0) rp.Done c₁ ∷ event c₁ (call.Start 1) rp.Done r₂ ∷ event r₂ (call.Submit 0 7 300 2) (rp.Submitted job) r₃ ∷ event r₃ (call.Submit 1 4 100 1) (rp.Submitted rival) r₄
@@ -533,7 +533,7 @@ shared = (
   lent (own_packet r₃ 0),
   record {
     first = w₀;
-    new = w₀-new;
+    new = w₀_new;
     beds = refl;
     history = before ++ (collects ∷ []);
     last = h₇;

@@ -71,15 +71,15 @@ module _ (named n : ℕ) (most : n ≤ max_beds) where
       }
 
   -- from a past that went well through what is still to come
-  valid-run : (todo past : History) (w w' : World) → OnlySentHeard (past ++ todo) → Good (Valid past) n w → SendsValid n past → Lived named w todo w' → Good (Valid (past ++ todo)) n (after w todo)
-  valid-run [] past w w' only g sends l = subst (λ h. Good (Valid h) n w) (sym (append-nil past)) g
-  valid-run (e ∷ todo) past w w' only g sends l =
+  valid_run : (todo past : History) (w w' : World) → OnlySentHeard (past ++ todo) → Good (Valid past) n w → SendsValid n past → Lived named w todo w' → Good (Valid (past ++ todo)) n (after w todo)
+  valid_run [] past w w' only g sends l = subst (λ h. Good (Valid h) n w) (sym (append-nil past)) g
+  valid_run (e ∷ todo) past w w' only g sends l =
       let ge : Good (Valid past) n e.before = subst (Good (Valid past) n) (sym l.0) g in
       let s : Next (Valid (past ++ (e ∷ []))) n e.before e.answer e.after =
       step named (record { most = most; good = ge; more = valid_more past e }) e.call (feeds past todo e only sends) l.1 in
       let split : (past ++ (e ∷ [])) ++ todo ≡ past ++ (e ∷ todo) = append_assoc past (e ∷ []) todo in
       subst (λ h. Good (Valid h) n (after e.after todo)) split
-      (valid-run todo (past ++ (e ∷ [])) e.after w' (subst OnlySentHeard (sym split) only) s.good (sends_more past e ge l.1 sends) l.2)
+      (valid_run todo (past ++ (e ∷ [])) e.after w' (subst OnlySentHeard (sym split) only) s.good (sends_more past e ge l.1 sends) l.2)
 
 pub validity : (named : ℕ) (w₀ : World) (h : History) (w : World) → New w₀ → Lived named w₀ h w → Validity w₀ h
 validity named w₀ h w new l past rest eq only b place t shows =
@@ -87,7 +87,7 @@ validity named w₀ h w new l past rest eq only b place t shows =
     let s = lived_split named past rest w₀ w (subst (λ k. Lived named w₀ k w) eq l) in
     let u = after w₀ past in
     let g : Good (Valid past) n u =
-    valid-run named n new.most past [] w₀ u only (new_good (Valid []) w₀ new) (λ bytes from round ts e p. absurd (omega (arith, e.1.1))) s.0 in
+    valid_run named n new.most past [] w₀ u only (new_good (Valid []) w₀ new) (λ bytes from round ts e p. absurd (omega (arith, e.1.1))) s.0 in
     let q : Each (Valid past) (bed u b).queue =
     subst (Each (Valid past)) (sym (g.bed b shows.0).queue)
     (delivered_each (Valid past) n u.board.decision (bed u b).round

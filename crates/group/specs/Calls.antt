@@ -185,7 +185,7 @@ collected x ts =
 -- what a poll for bed b's round leaves to be done, by the decision that then stands
 pub data Collected (w : World) (b : ℕ) (a : Answer) (w' : World) : Type 0 where
   undecided : w'.board.decision (bed w b).round ≡ None → a ≡ Err (rf.Service dr.Undecided) → w'.beds ≡ w.beds → Collected w b a w'
-  bad-decided : (bytes : List ℕ) (f : WholeFault) → w'.board.decision (bed w b).round ≡ Some bytes → batch_of (size w) bytes ≡ Err f →
+  bad_decided : (bytes : List ℕ) (f : WholeFault) → w'.board.decision (bed w b).round ≡ Some bytes → batch_of (size w) bytes ≡ Err f →
       a ≡ Err (faulty f b (bed w b).round so.Service) → w'.beds ≡ w.beds → Collected w b a w'
   decided : (bytes : List ℕ) (ts : List Ticket) → w'.board.decision (bed w b).round ≡ Some bytes → IsBatch (size w) bytes ts →
       a ≡ Ok rp.Done → w'.beds ≡ slice_set w.beds b (collected (bed w b) ts) → Collected w b a w'

@@ -41,13 +41,13 @@ pub data Replay (n : ℕ) (slots : ℕ → Option (List ℕ)) (bed : ℕ) : ℕ 
   -- the bed kept nothing in this round
   empty : {round : ℕ} {queue : List Ticket} {s : Board} → round < round_count → slots round ≡ None → Replay n slots bed round queue s (Ok (started Idle round queue)) s
   -- what it kept is no batch
-  bad-kept : {round : ℕ} {queue : List Ticket} {s : Board} (bytes : List ℕ) (f : WholeFault) →
+  bad_kept : {round : ℕ} {queue : List Ticket} {s : Board} (bytes : List ℕ) (f : WholeFault) →
       round < round_count → slots round ≡ Some bytes → batch_of n bytes ≡ Err f → Replay n slots bed round queue s (Err (faulty f bed round so.Memory)) s
   -- its proposal stands, and there is no decision
   undecided : {round : ℕ} {queue : List Ticket} {s s' : Board} →
       Proposed n bed round (slots round) s s' → s'.decision round ≡ None → Replay n slots bed round queue s (Ok (started Waiting round queue)) s'
   -- what was decided is no batch
-  bad-decided : {round : ℕ} {queue : List Ticket} {s s' : Board} (bytes : List ℕ) (f : WholeFault) →
+  bad_decided : {round : ℕ} {queue : List Ticket} {s s' : Board} (bytes : List ℕ) (f : WholeFault) →
       Proposed n bed round (slots round) s s' → s'.decision round ≡ Some bytes → batch_of n bytes ≡ Err f → Replay n slots bed round queue s (Err (faulty f bed round so.Service)) s'
   -- the decided batch is appended, and the next round follows
   next : {round : ℕ} {queue : List Ticket} {s s' s'' : Board} {end : Result Bed Refusal} (bytes : List ℕ) (tickets : List Ticket) →

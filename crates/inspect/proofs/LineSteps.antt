@@ -12,8 +12,8 @@ pub length_of_rest : (cs : List ℕ) → length (take (length cs - 3) (drop 3 cs
 length_of_rest cs = ap length (take_rest cs 3) ∙ length-drop 3 cs
 
 -- what stands behind the digit: nothing, which counts as a space, or a character
-pub behind-none : (cs : List ℕ) → length cs ≤ 3 → get_or cs 3 32 ≡ 32
-behind-none cs h = get_or_past cs 3 32 h
+pub behind_none : (cs : List ℕ) → length cs ≤ 3 → get_or cs 3 32 ≡ 32
+behind_none cs h = get_or_past cs 3 32 h
 
 pub behind_some : (cs : List ℕ) → 3 < length cs → get_or cs 3 32 ≡ get_or (take (length cs - 3) (drop 3 cs)) 0 0
 behind_some cs h =

@@ -39,36 +39,36 @@ written_beside cells p bytes room some most =
 -- `at` cells are written, and junk into the next
 pub torn_part : (before : List ℕ) (p : ℕ) (bytes : List ℕ) («at» junk : ℕ) → p + slot_cells ≤ length before → 1 ≤ length bytes → length bytes ≤ max_batch_bytes
     → «at» < length bytes + 2 → slot_holds before p ≡ None → SlotTorn before (set (written before p bytes «at») (p + keep_place (length bytes) «at») junk) p bytes «at»
-torn_part before p bytes «at» junk room-before some most short empty =
+torn_part before p bytes «at» junk room_before some most short empty =
     let mid : List ℕ = written before p bytes «at» in
     let q : ℕ = keep_place (length bytes) «at» in
-    part mid q (written_is before p bytes «at» room-before some most (omega arith)) (omega (arith, length-written before p bytes «at»))
+    part mid q (written_is before p bytes «at» room_before some most (omega arith)) (omega (arith, length-written before p bytes «at»))
     (place_front (length bytes) «at») (place_last (length bytes) «at»)
   where
     part : (mid : List ℕ) (q : ℕ) → Written before mid p bytes «at» → p + slot_cells ≤ length mid → («at» ≤ length bytes → q ≡ «at») → (length bytes < «at» → q ≡ mark_place)
         → SlotTorn before (set mid (p + q) junk) p bytes «at»
     part mid q w room front last =
         let long : p + slot_cells ≤ length (set mid (p + q) junk) = simp length-set (omega arith) in
-        let q-in : q < slot_cells = grind arith in
-        let no-mark : «at» ≤ length bytes → slot_holds (set mid (p + q) junk) p ≡ None
+        let q_in : q < slot_cells = grind arith in
+        let no_mark : «at» ≤ length bytes → slot_holds (set mid (p + q) junk) p ≡ None
         = λ h. slot_none (set mid (p + q) junk) p (λ m. unmarked before p empty (grind (arith, missed))) in
         let marked : length bytes < «at» → junk ≡ 165 → slot_holds (set mid (p + q) junk) p ≡ Some bytes
-        = λ h j. slot_is (set mid (p + q) junk) bytes p long some most (grind (arith, missed)) (grind (arith, hit)) (λ k k-in. grind (arith, missed)) in
+        = λ h j. slot_is (set mid (p + q) junk) bytes p long some most (grind (arith, missed)) (grind (arith, hit)) (λ k k_in. grind (arith, missed)) in
         let other : length bytes < «at» → (junk ≡ 165 → ⊥) → slot_holds (set mid (p + q) junk) p ≡ None
         = λ h j. slot_none (set mid (p + q) junk) p (λ m. j (grind (arith, hit))) in
         record {
-          either = λ e. ⊎_elim (λ (h : «at» < length bytes + 1). inl (no-mark (omega arith)))
+          either = λ e. ⊎_elim (λ (h : «at» < length bytes + 1). inl (no_mark (omega arith)))
               (λ h. ⊎_elim (λ (j : junk ≡ 165). inr (marked (omega arith) j)) (λ j. inl (other (omega arith) j)) (cases_eq junk 165))
               (cases_lt «at» (length bytes + 1));
-          nothing = λ e z. no-mark (omega arith);
+          nothing = λ e z. no_mark (omega arith);
           whole = λ e z. absurd (omega arith);
           stays = λ old e. never _ _ e empty;
           beside = record { below = λ k h. grind (arith, missed); above = λ k h. grind (arith, missed) };
         }
 
 -- a full slot shows something, and an empty one nothing
-full-shows : (cells : List ℕ) (p : ℕ) → full cells p ≡ true → slot_holds cells p ≡ None → ⊥
-full-shows cells p f e = never _ _ (cond-true (full cells p) _ _ f) e
+full_shows : (cells : List ℕ) (p : ℕ) → full cells p ≡ true → slot_holds cells p ≡ None → ⊥
+full_shows cells p f e = never _ _ (cond-true (full cells p) _ _ f) e
 
 empty_shows : (cells : List ℕ) (p : ℕ) (old : List ℕ) → full cells p ≡ false → slot_holds cells p ≡ Some old → ⊥
 empty_shows cells p old f e = never _ old e (cond-false (full cells p) _ _ f)
@@ -92,7 +92,7 @@ keep_beside cells p bytes room some most = elim (cases_Bool (full cells p)) [
 
 keep_takes : (cells : List ℕ) (p : ℕ) (bytes : List ℕ) → p + slot_cells ≤ length cells → 1 ≤ length bytes → length bytes ≤ max_batch_bytes → slot_holds cells p ≡ None → slot_holds (keep_cells cells p bytes) p ≡ Some bytes
 keep_takes cells p bytes room some most e = elim (cases_Bool (full cells p)) [
-  | inl f ↦ absurd (full-shows cells p f e)
+  | inl f ↦ absurd (full_shows cells p f e)
   | inr f ↦ ap (λ (l : List ℕ). slot_holds l p) (keep_empty cells p bytes f) ∙ written_holds cells p bytes room some most
 ]
 
@@ -129,9 +129,9 @@ chip_keeps cells bed slot bytes r big w a =
 
 -- ---- torn keeps
 
-torn-full : (cells : List ℕ) (p : ℕ) (bytes : List ℕ) («at» junk : ℕ) → full cells p ≡ true → torn_cells cells p bytes «at» junk ≡ cells
+torn_full : (cells : List ℕ) (p : ℕ) (bytes : List ℕ) («at» junk : ℕ) → full cells p ≡ true → torn_cells cells p bytes «at» junk ≡ cells
 unfolding torn_cells
-torn-full cells p bytes «at» junk f = cond-true (full cells p) _ _ f
+torn_full cells p bytes «at» junk f = cond-true (full cells p) _ _ f
 
 torn_whole : (cells : List ℕ) (p : ℕ) (bytes : List ℕ) («at» junk : ℕ) → full cells p ≡ false → length bytes + 2 ≤ «at» → torn_cells cells p bytes «at» junk ≡ written cells p bytes (length bytes + 2)
 unfolding torn_cells
@@ -144,7 +144,7 @@ torn_broken cells p bytes «at» junk f h = cond-false (full cells p) _ _ f ∙ 
 
 torn-length : (cells : List ℕ) (p : ℕ) (bytes : List ℕ) («at» junk : ℕ) → length (torn_cells cells p bytes «at» junk) ≡ length cells
 torn-length cells p bytes «at» junk = elim (cases_Bool (full cells p)) [
-  | inl f ↦ ap length (torn-full cells p bytes «at» junk f)
+  | inl f ↦ ap length (torn_full cells p bytes «at» junk f)
   | inr f ↦ elim (cases_lt «at» (length bytes + 2)) [
     | inl h ↦ ap length (torn_broken cells p bytes «at» junk f h) ∙ length-set (written cells p bytes «at») (p + keep_place (length bytes) «at») junk ∙ length-written cells p bytes «at»
     | inr h ↦ ap length (torn_whole cells p bytes «at» junk f h) ∙ length-written cells p bytes (length bytes + 2)
@@ -154,10 +154,10 @@ torn-length cells p bytes «at» junk = elim (cases_Bool (full cells p)) [
 slot_torn : (cells : List ℕ) (p : ℕ) (bytes : List ℕ) («at» junk : ℕ) → p + slot_cells ≤ length cells → 1 ≤ length bytes → length bytes ≤ max_batch_bytes
     → SlotTorn cells (torn_cells cells p bytes «at» junk) p bytes «at»
 slot_torn cells p bytes «at» junk room some most = elim (cases_Bool (full cells p)) [
-  | inl f ↦ subst (λ (l : List ℕ). SlotTorn cells l p bytes «at») (sym (torn-full cells p bytes «at» junk f)) (record {
-    either = λ e. absurd (full-shows cells p f e);
+  | inl f ↦ subst (λ (l : List ℕ). SlotTorn cells l p bytes «at») (sym (torn_full cells p bytes «at» junk f)) (record {
+    either = λ e. absurd (full_shows cells p f e);
     nothing = λ e z. e;
-    whole = λ e z. absurd (full-shows cells p f e);
+    whole = λ e z. absurd (full_shows cells p f e);
     stays = λ old e. e;
     beside = unchanged cells p;
   })
@@ -200,7 +200,7 @@ is_full : (cells : List ℕ) (p : ℕ) (old : List ℕ) → slot_holds cells p �
 is_full cells p old e = elim (cases_Bool (full cells p)) [ inl f ↦ f | inr f ↦ absurd (empty_shows cells p old f e) ]
 
 is_empty : (cells : List ℕ) (p : ℕ) → slot_holds cells p ≡ None → full cells p ≡ false
-is_empty cells p e = elim (cases_Bool (full cells p)) [ inl f ↦ absurd (full-shows cells p f e) | inr f ↦ f ]
+is_empty cells p e = elim (cases_Bool (full cells p)) [ inl f ↦ absurd (full_shows cells p f e) | inr f ↦ f ]
 
 pub keep_some : (cells : List ℕ) (p : ℕ) (bytes old : List ℕ) → slot_holds cells p ≡ Some old → cells ≡ keep_cells cells p bytes
 keep_some cells p bytes old e = sym (keep_full cells p bytes (is_full cells p old e))
@@ -209,7 +209,7 @@ pub keep_none : (cells : List ℕ) (p : ℕ) (bytes : List ℕ) → slot_holds c
 keep_none cells p bytes e = sym (keep_empty cells p bytes (is_empty cells p e))
 
 pub torn_some : (cells : List ℕ) (p : ℕ) (bytes : List ℕ) («at» junk : ℕ) (old : List ℕ) → slot_holds cells p ≡ Some old → cells ≡ torn_cells cells p bytes «at» junk
-torn_some cells p bytes «at» junk old e = sym (torn-full cells p bytes «at» junk (is_full cells p old e))
+torn_some cells p bytes «at» junk old e = sym (torn_full cells p bytes «at» junk (is_full cells p old e))
 
 pub torn_late : (cells : List ℕ) (p : ℕ) (bytes : List ℕ) («at» junk : ℕ) → slot_holds cells p ≡ None → length bytes + 2 ≤ «at» → written cells p bytes (length bytes + 2) ≡ torn_cells cells p bytes «at» junk
 torn_late cells p bytes «at» junk e h = sym (torn_whole cells p bytes «at» junk (is_empty cells p e) h)

@@ -49,8 +49,8 @@ more : (before after bytes : List ℕ) (p i q v : ℕ) → p + slot_cells ≤ le
     → (i ≤ length bytes → q ≡ i) → (length bytes < i → q ≡ mark_place)
     → (i ≡ 0 → v ≡ length bytes) → ((k : ℕ) → i ≡ k + 1 → k < length bytes → v ≡ get_or bytes k 0) → (length bytes < i → v ≡ 165)
     → Written before after p bytes i → Written before (set after (p + q) v) p bytes (suc i)
-more before after bytes p i q v room some most i-in front last v-first v-middle v-last w =
-    let q-in : p + q < length after = grind arith in
+more before after bytes p i q v room some most i_in front last v_first v_middle v_last w =
+    let q_in : p + q < length after = grind arith in
     record {
       length_cell = λ h. grind (arith, hit, missed);
       bytes_cells = λ k h₁ h₂. grind (arith, hit, missed);

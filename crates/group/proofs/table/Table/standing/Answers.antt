@@ -5,7 +5,7 @@ use Rattle.group.specs.World.{Bed}
 use Rattle.group.specs.Table.{admission}
 use Rattle.group.specs.declared.bed.Event.TheVariants as ev
 use Rattle.group.proofs.Tables.{set_bounded, queue_bounded, admits_running}
-use Rattle.group.proofs.Questions.{not_running, running, admitted-bed}
+use Rattle.group.proofs.Questions.{not_running, running, admitted_bed}
 use Rattle.group.proofs.table.Table.standing.Goals as goal
 
 pub returns-in_err-index : goal.returns-in_err-index
@@ -24,5 +24,5 @@ returns c kept board =
     let t = c.args.self.now in
     let b = c.args.ticket.now.origin in
     let on = admits_running t b ev.Use c.in_ok-index.index c.in_ok-index.field-0-1 (inl refl) (c.in_ok-index.ensures ∙ ap (λ k. admission t k ev.Use) c.from.ensures) in
-    ap Ok (c.standing.ensures ∙ ap (λ (x : Bed). standing_at x c.args.ticket.now) (admitted-bed t kept board b c.in_ok-index.index on))
+    ap Ok (c.standing.ensures ∙ ap (λ (x : Bed). standing_at x c.args.ticket.now) (admitted_bed t kept board b c.in_ok-index.index on))
     ∙ running t kept board b _ c.in_ok-index.index on
