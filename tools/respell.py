@@ -21,7 +21,7 @@ def table():
     names, fields = {}, set()
     with open(os.path.join(HERE, "respell.txt"), encoding="utf-8") as lines:
         for line in lines:
-            if line.startswith("#"):
+            if line.startswith("#") or not line.strip():
                 continue
             words = line.split()
             names[words[0]] = words[1]
@@ -56,6 +56,8 @@ def in_marks(text, names, fields):
 
 
 def main(root):
+    if not os.path.isdir(os.path.join(root, "crates")):
+        sys.exit(f"{root} has no folder crates")
     names, fields = table()
     changed = 0
     for folder, dirs, files in os.walk(root):

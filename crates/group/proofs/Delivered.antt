@@ -1,5 +1,5 @@
 -- What the decisions of the first rounds deliver, and that it only grows.
-use Rattle.std.proofs.Common.{◌≡◌, ℕ, zero, suc, ◌*◌, ◌<◌, ◌≤◌, true, List, [], ◌++◌, length, is_some as option_is_some, Some, Option, sym, refl, ap, ◌∙◌, subst, inl, inr, arith}
+use Rattle.std.proofs.Common.{◌≡◌, ℕ, zero, suc, ◌*◌, ◌<◌, ◌≤◌, true, List, [], ◌++◌, length, is_some, Some, Option, sym, refl, ap, ◌∙◌, subst, inl, inr, arith}
 use Rattle.std.proofs.lemmas.List.{append-nil, append_assoc}
 use Rattle.std.proofs.lemmas.Bool.{cases_lt}
 use Rattle.codec.specs.Limits.{max_beds, batch_tickets}
@@ -9,15 +9,15 @@ use Rattle.codec.specs.declared.ticket.Ticket.{Ticket}
 use Rattle.codec.proofs.FormLaws.{batch_laws}
 use Rattle.group.specs.Queue.{append}
 use Rattle.group.specs.Delivered.{readable, tickets_in, delivered}
-use Rattle.group.proofs.Options.{is_some, some_of}
+use Rattle.group.proofs.Options.{is_some_lem, some_of}
 use Rattle.group.proofs.Appends.{Begins, append_laws, append_each}
 
 -- what stood still stands
 abbrev pub Grow : (ℕ → Option (List ℕ)) → (ℕ → Option (List ℕ)) → Type 0
 Grow d d' = (r : ℕ) (v : List ℕ) → d r ≡ Some v → d' r ≡ Some v
 
-pub grow_some : (d d' : ℕ → Option (List ℕ)) → Grow d d' → (r : ℕ) → option_is_some (d r) ≡ true → option_is_some (d' r) ≡ true
-grow_some d d' g r h = let p = some_of (d r) h in is_some (d' r) p.0 (g r p.0 p.1)
+pub grow_some : (d d' : ℕ → Option (List ℕ)) → Grow d d' → (r : ℕ) → is_some (d r) ≡ true → is_some (d' r) ≡ true
+grow_some d d' g r h = let p = some_of (d r) h in is_some_lem (d' r) p.0 (g r p.0 p.1)
 
 pub grow_trans : (d e f : ℕ → Option (List ℕ)) → Grow d e → Grow e f → Grow d f
 grow_trans d e f g h r v k = h r v (g r v k)
@@ -26,7 +26,7 @@ pub tickets_in_lem : (n : ℕ) (v : List ℕ) (ts : List Ticket) → n ≤ max_b
 tickets_in_lem n v ts most b = ap readable (batch_laws.whole n v ts most b)
 
 -- decided rounds deliver the same from then on
-pub delivered_grow : (n : ℕ) (d d' : ℕ → Option (List ℕ)) → Grow d d' → (k : ℕ) → ((r : ℕ) → r < k → option_is_some (d r) ≡ true) → delivered n d k ≡ delivered n d' k
+pub delivered_grow : (n : ℕ) (d d' : ℕ → Option (List ℕ)) → Grow d d' → (k : ℕ) → ((r : ℕ) → r < k → is_some (d r) ≡ true) → delivered n d k ≡ delivered n d' k
 delivered_grow n d d' g zero h = refl
 delivered_grow n d d' g (suc k) h =
     let before = delivered_grow n d d' g k (λ r l. h r (omega arith)) in

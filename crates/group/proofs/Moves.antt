@@ -30,7 +30,7 @@ use Rattle.group.specs.declared.call.Reply.{Reply}
 use Rattle.group.specs.declared.call.Reply.TheVariants as rp
 use Rattle.group.specs.declared.refusal.Refusal.{Refusal}
 use Rattle.group.specs.declared.refusal.Refusal.TheVariants as rf
-use Rattle.group.proofs.Options.{is_some, not_none}
+use Rattle.group.proofs.Options.{is_some_lem, not_none}
 use Rattle.group.proofs.Hearings.{hear_laws, hear_each}
 use Rattle.group.proofs.Delivered.{Grow, tickets_in_lem, delivered_grow}
 use Rattle.group.proofs.Stores.{past_more, past_grow, Batch, Slot, Store, store_more, decided_batch, settles_grow, put_store, poll_store, Fills, fills_grow, fills_store, keep_within}
@@ -211,7 +211,7 @@ module _ {V V' : Ticket → Type 0} {n : ℕ} {w w' : World} {a : Answer} (m : M
               round = old.round;
               queue = old.queue ∙ delivered_grow n w.board.decision w'.board.decision gd r (λ k j. (old.passed k j).1);
               passed = past_grow (w.kept b) (w'.kept b) w.board.decision w'.board.decision grow gd r old.passed;
-              waiting = λ y. (left, is_some (w'.kept b r) v holds);
+              waiting = λ y. (left, is_some_lem (w'.kept b r) v holds);
               ahead = λ k j. p.keeps.elsewhere b k (λ e y. omega arith) ∙ old.ahead k j;
               idle = λ y. absurd (idle_waits (sym y));
               set = old_set b run;
@@ -271,7 +271,7 @@ module _ {V V' : Ticket → Type 0} {n : ℕ} {w w' : World} {a : Answer} (m : M
             here = λ z. record {
               round = omega (arith, held.0);
               queue = whole ∙ ap (delivered n w'.board.decision) (sym (add-one r));
-              passed = past_more (w'.kept b) w'.board.decision r old.passed (held.1, is_some (w'.board.decision r) v d);
+              passed = past_more (w'.kept b) w'.board.decision r old.passed (held.1, is_some_lem (w'.board.decision r) v d);
               waiting = λ y. absurd (idle_waits y);
               ahead = λ k j. old.ahead k (omega arith);
               idle = λ y. old.ahead (r + 1) (omega arith);

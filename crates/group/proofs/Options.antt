@@ -1,12 +1,12 @@
 -- An optional value: there or not, and the same if it is read twice.
-use Rattle.std.proofs.Common.{◌≡◌, ℕ, true, ◌⊎◌, is_some as option_is_some, Some, None, Ok, Err, Option, Result, refl, ap, inl, inr, arith}
+use Rattle.std.proofs.Common.{◌≡◌, ℕ, true, ◌⊎◌, is_some, Some, None, Ok, Err, Option, Result, refl, ap, inl, inr, arith}
 use Rattle.std.proofs.lemmas.Bool.{both_ways}
 use Rattle.codec.specs.Chain.{raise}
 
-pub is_some : {A : Type 0} (o : Option A) (v : A) → o ≡ Some v → option_is_some o ≡ true
-is_some o v e = ap option_is_some e
+pub is_some_lem : {A : Type 0} (o : Option A) (v : A) → o ≡ Some v → is_some o ≡ true
+is_some_lem o v e = ap is_some e
 
-pub some_of : {A : Type 0} (o : Option A) → option_is_some o ≡ true → (v : A) × (o ≡ Some v)
+pub some_of : {A : Type 0} (o : Option A) → is_some o ≡ true → (v : A) × (o ≡ Some v)
 some_of None e = absurd (both_ways _ refl e)
 some_of (Some v) e = (v, refl)
 

@@ -1,5 +1,5 @@
 -- What holds of a running bed, and where a replay ends: never at a fault, and in the first round that the bed has not passed.
-use Rattle.std.proofs.Common.{◌≡◌, ℕ, suc, ◌<◌, ◌≤◌, true, ◌⊎◌, List, [], is_some as option_is_some, Some, None, Ok, Err, Option, Result, sym, refl, ap, ◌∙◌, subst, inl, inr, add-one, arith}
+use Rattle.std.proofs.Common.{◌≡◌, ℕ, suc, ◌<◌, ◌≤◌, true, ◌⊎◌, List, [], is_some, Some, None, Ok, Err, Option, Result, sym, refl, ap, ◌∙◌, subst, inl, inr, add-one, arith}
 use Rattle.codec.specs.Limits.{max_beds}
 use Rattle.codec.specs.TicketList.{Each, Sound}
 use Rattle.codec.specs.Batch.{IsBatch, batch_of}
@@ -17,7 +17,7 @@ use Rattle.group.specs.Replay.{Replay, Proposed, started}
 use Rattle.group.specs.Delivered.{tickets_in, delivered}
 use Rattle.group.specs.declared.bed.Phase.TheVariants.{Off, Idle, Waiting}
 use Rattle.group.specs.declared.refusal.Refusal.{Refusal}
-use Rattle.group.proofs.Options.{is_some, some_of, not_none, none_from}
+use Rattle.group.proofs.Options.{is_some_lem, some_of, not_none, none_from}
 use Rattle.group.proofs.Delivered.{Grow, grow_trans, tickets_in_lem, delivered_grow}
 use Rattle.group.proofs.Stores.{Past, AllPast, past_more, past_grow, Batch, Store, decided_batch, empty_ahead, put_store, put_stands, poll_store, settles_grow}
 
@@ -51,7 +51,7 @@ pub record BedGood (V : Ticket → Type 0) (n : ℕ) (m d : ℕ → Option (List
   pub queue : x.queue ≡ delivered n d x.round
   pub passed : AllPast m d x.round
   -- a waiting bed has kept its proposal; the slots after it, and an idle bed's own, are empty
-  pub waiting : x.phase ≡ Waiting → (x.round < round_count) × (option_is_some (m x.round) ≡ true)
+  pub waiting : x.phase ≡ Waiting → (x.round < round_count) × (is_some (m x.round) ≡ true)
   pub ahead : (k : ℕ) → x.round < k → m k ≡ None
   pub idle : x.phase ≡ Idle → m x.round ≡ None
   pub set : SetGood V n x.waiting
@@ -64,7 +64,7 @@ bed_grow V V' n m m' d d' x f same h b =
       round = b.round;
       queue = b.queue ∙ delivered_grow n d d' h x.round (λ r l. (b.passed r l).1);
       passed = past_grow m m' d d' (λ k u e. same k ∙ e) h x.round b.passed;
-      waiting = λ e. let p = b.waiting e in (p.0, ap option_is_some (same x.round) ∙ p.1);
+      waiting = λ e. let p = b.waiting e in (p.0, ap is_some (same x.round) ∙ p.1);
       ahead = λ k l. same k ∙ b.ahead k l;
       idle = λ e. same x.round ∙ b.idle e;
       set = set_more V V' n x.waiting f b.set;
@@ -132,7 +132,7 @@ module _ (V : Ticket → Type 0) (n : ℕ) (most : n ≤ max_beds) (K : Slots) (
     pub store : Store V n K s'
     pub grows : Grow s.decision s'.decision
     pub full : (v : List ℕ) → K b r ≡ Some v → s'.proposal b r ≡ Some v
-    pub held : option_is_some (K b r) ≡ true
+    pub held : is_some (K b r) ≡ true
 
   pub polled : (r : ℕ) (s s' : Board) → Store V n K s → Proposed n b r (K b r) s s' → Polled r s s'
   polled r s s' st p =
@@ -142,7 +142,7 @@ module _ (V : Ticket → Type 0) (n : ℕ) (most : n ≤ max_beds) (K : Slots) (
         store = poll_store V n K p.between r p.poll_answer s' p.polls put;
         grows = grow_trans s.decision p.between.decision s'.decision (settles_grow s r p.between p.puts.settles) (settles_grow p.between r s' p.polls.settles);
         full = λ v e. p.polls.same_proposals b r ∙ stands ∙ sym p.full ∙ e;
-        held = is_some (K b r) p.bytes p.full;
+        held = is_some_lem (K b r) p.bytes p.full;
       }
 
   pub replay_ends : {r : ℕ} {q : List Ticket} {s : Board} {end : Result Bed Refusal} {s' : Board} → Replay n (K b) b r q s end s' →
@@ -182,7 +182,7 @@ module _ (V : Ticket → Type 0) (n : ℕ) (most : n ≤ max_beds) (K : Slots) (
       let whole : append q ts ≡ delivered n s'.decision (suc r) = ap (λ a. append a ts) front ∙ ap (append (delivered n s'.decision r)) here in
       let past : AllPast (K b) s'.decision (suc r) =
       subst (AllPast (K b) s'.decision) (add-one r)
-      (past_more (K b) s'.decision r (past_grow (K b) (K b) s.decision s'.decision (λ k u y. y) o.grows r p) (o.held, is_some (s'.decision r) v d)) in
+      (past_more (K b) s'.decision r (past_grow (K b) (K b) s.decision s'.decision (λ k u y. y) o.grows r p) (o.held, is_some_lem (s'.decision r) v d)) in
       let rest = replay_ends more o.store (omega (arith, h.left)) whole past in
       record {
         store = rest.store;
