@@ -1,13 +1,11 @@
 pub mod Chains
-pub mod Writes
+pub mod FixedVecs
 pub mod Numbers
 pub mod Orders
 pub mod TicketLists
 pub mod ListEdits
 pub mod TicketForms
 pub mod ListForms
-pub mod ReadSteps
-pub mod Readings
 pub mod Wholes
 pub mod ListWrites
 pub mod FormLaws

@@ -1,10 +1,12 @@
 -- Changes to a list of tickets: what they keep.
-use Rattle.std.proofs.Common.{◌≡◌, ℕ, ◌+◌, ◌≤◌, Bool, true, false, ◌||◌, List, [], ◌∷◌, length, take, refl, ap, ◌∙◌, inl, inr, arith}
+use Rattle.std.proofs.Common.{◌≡◌, ℕ, ◌+◌, ◌≤◌, Bool, true, false, ◌||◌, List, [], ◌∷◌, length, take, refl, arith}
 use Rattle.std.proofs.lemmas.List.{length-take}
-use Rattle.std.proofs.lemmas.Bool.{both_ways, cond_both, or_parts}
+use Rattle.std.proofs.lemmas.Bool.Decides.{nat_tests}
+use Rattle.std.proofs.lemmas.Bool.{cond_both, or_parts}
 use Rattle.codec.specs.Ticket.{same_identity, stands_before, InRange}
 use Rattle.codec.specs.TicketList.{Each, Sound, known}
-use Rattle.codec.specs.Edits.{placed, passing}
+use Rattle.std.specs.List.{filter}
+use Rattle.codec.specs.Edits.{placed}
 use Rattle.codec.specs.Laws.{EditLaws}
 use Rattle.codec.specs.declared.ticket.Ticket.{Ticket}
 use Rattle.codec.proofs.Orders.{order_laws, same_no}
@@ -29,11 +31,11 @@ sound_part : (n most k : ℕ) (us ts : List Ticket) → Part us ts → Sound n m
 sound_part n most k us ts p s f =
     sound_from n k us (each_part (InRange n) us ts p s.ranged) (line_part us ts p (line_from ts s.rising s.apart)) f
 
-pub passing_part : (test : Ticket → Bool) (ts : List Ticket) → Part (passing test ts) ts
+pub passing_part : (test : Ticket → Bool) (ts : List Ticket) → Part (filter test ts) ts
 passing_part test [] = nothing []
 passing_part test (t ∷ ts) =
     let p = passing_part test ts in
-    cond_both (test t) (t ∷ passing test ts) (passing test ts) (λ us. Part us (t ∷ ts)) (λ _. keep t (passing test ts) ts p) (λ _. leave t (passing test ts) ts p)
+    cond_both (test t) (t ∷ filter test ts) (filter test ts) (λ us. Part us (t ∷ ts)) (λ _. keep t (filter test ts) ts p) (λ _. leave t (filter test ts) ts p)
 
 -- ---- one more in its place
 
@@ -48,23 +50,18 @@ each_placed P t (x ∷ xs) p e = placed_ways (Each P) t x xs (λ _. (p, e)) (λ 
 
 placed_length : (t : Ticket) (ts : List Ticket) → length (placed t ts) ≡ length ts + 1
 placed_length t [] = refl
-placed_length t (x ∷ xs) =
-    placed_ways (λ ys. length ys ≡ length (x ∷ xs) + 1) t x xs (λ _. omega arith) (λ _. omega (arith, placed_length t xs))
+placed_length t (x ∷ xs) = grind (arith, placed_length t xs)
 
 or_swap : (a b c : Bool) → (a || (b || c)) ≡ (b || (a || c))
-or_swap true true c = refl
-or_swap true false c = refl
-or_swap false b c = refl
+or_swap a b c = grind (arith, nat_tests)
 
 placed_known : (u t : Ticket) (ts : List Ticket) → known u (placed t ts) ≡ (same_identity t u || known u ts)
 placed_known u t [] = refl
-placed_known u t (x ∷ xs) =
-    placed_ways (λ ys. known u ys ≡ (same_identity t u || known u (x ∷ xs))) t x xs (λ _. refl)
-    (λ _. ap (λ (b : Bool). same_identity x u || b) (placed_known u t xs) ∙ or_swap (same_identity x u) (same_identity t u) (known u xs))
+placed_known u t (x ∷ xs) = grind (arith, placed_known u t xs, or_swap)
 
 -- one of two tickets stands before the other, so if not the one then the other
 before_else : (t x : Ticket) → same_identity x t ≡ false → stands_before t x ≡ false → stands_before x t ≡ true
-before_else t x d n = elim (order_laws.one_before x t d) [ inl b ↦ b | inr b ↦ absurd (both_ways (stands_before t x) n b) ]
+before_else t x d n = grind (arith, nat_tests, order_laws.one_before x t d)
 
 line_placed : (t : Ticket) (ts : List Ticket) → Line ts → known t ts ≡ false → Line (placed t ts)
 line_placed t [] l k = (tt, tt)
@@ -91,5 +88,5 @@ edit_laws = record {
   first_sound = λ n most k ts s. sound_part n most k (take k ts) ts (take_part k ts) s (omega (arith, length-take k ts));
   passing_sound = λ n most test ts s.
       let p = passing_part test ts in
-      sound_part n most most (passing test ts) ts p s (omega (arith, length_part (passing test ts) ts p, s.few));
+      sound_part n most most (filter test ts) ts p s (omega (arith, length_part (filter test ts) ts p, s.few));
 }

@@ -1,15 +1,17 @@
 -- Lists, batches and packets: what is written is read again, part by part, and what is read has one form.
-use Rattle.std.proofs.Common.{◌≡◌, ℕ, zero, suc, ◌+◌, ◌-◌, ◌<◌, ◌≤◌, Bool, true, false, cond, eqb, ltb, List, [], ◌∷◌, ◌++◌, length, take, drop, Ok, Err, Result, sym, refl, ap, ◌∙◌, subst, inl, inr, true≢false, arith}
-use Rattle.std.proofs.lemmas.List.{append_assoc, length-drop, drop_all, take_at}
+use Rattle.std.proofs.Common.{◌≡◌, ℕ, zero, suc, ◌+◌, ◌<◌, ◌≤◌, Bool, true, false, eqb, ltb, List, [], ◌∷◌, ◌++◌, length, take, drop, Ok, Err, Result, sym, refl, ap, ◌∙◌, subst, inl, inr, true≢false, arith}
+use Rattle.std.proofs.lemmas.Bool.Decides.{Decides-eqb, nat_tests}
+use Rattle.std.proofs.lemmas.Grind.{common_steps}
+use Rattle.std.proofs.lemmas.List.{length-drop, drop_all}
+use Rattle.std.proofs.lemmas.Bool.{cases_Bool, ltb-false}
 use Rattle.std.specs.Cmp.Lexicographic.{pointwise}
 use Rattle.std.proofs.lemmas.Slice.Eq.{starts_is}
-use Rattle.std.proofs.lemmas.Bool.{cases_Bool, cond-true, cond-false, le-ltb, ltb-false, and_parts, eqb-true}
 use Rattle.codec.specs.Limits.{max_beds, batch_tickets, packet_tickets, max_round}
 use Rattle.codec.specs.Chain.{and_then, raise, map_ok}
 use Rattle.codec.specs.Number.{form, Bytes}
 use Rattle.codec.specs.Ticket.{InRange, ticket_at, ticket_bytes}
 use Rattle.codec.specs.TicketList.{Sound, known, follows, tickets_bytes, list_bytes, count_at, next_at}
-use Rattle.codec.specs.Reading.{Reading, head, ticket, ended, faulty, head_first, ticket_first, list_reading, batch_head, packet_head, head_at, mark, marked, count_of, batch_reading, packet_reading, tickets_of, parts_at}
+use Rattle.codec.specs.Reading.{Reading, head, head_first, ticket_first, list_reading, batch_head, packet_head, head_at, mark, marked, count_of, batch_reading, packet_reading, tickets_of, parts_at}
 use Rattle.codec.specs.Batch.{batch_bytes, IsBatch, batch_of}
 use Rattle.codec.specs.Packet.{packet_bytes, SoundPacket, IsPacket, packet_of}
 use Rattle.codec.specs.declared.ticket.Ticket.{Ticket}
@@ -19,22 +21,16 @@ use Rattle.codec.specs.declared.whole.WholeFault.{WholeFault}
 use Rattle.codec.specs.declared.whole.WholeFault.TheVariants as wf
 use Rattle.codec.specs.declared.reader.Head.{Head}
 use Rattle.codec.specs.declared.reader.Head.TheVariants as hd
-use Rattle.codec.proofs.Chains.{ok_same, never, then_ok, then_inv, raise_ok, raise_inv, cond_ok, cond_err}
+use Rattle.codec.proofs.Chains.{ok_same, never, then_inv, raise_inv, cond_ok, cond_err}
 use Rattle.codec.proofs.TicketLists.{After, sound_after, after_sound}
 use Rattle.codec.proofs.TicketForms.{ranged_back, ranged_only, ticket_back, ticket_only, TicketRead}
-use Rattle.std.proofs.lemmas.Bool.Decides.{Decides-eqb}
 
 -- ---- one ticket after others
 
 next_back : (n : ℕ) (bs : List ℕ) (seen : List Ticket) (at : ℕ) (t : Ticket) (post : List ℕ) → n ≤ max_beds → InRange n t → follows t seen ≡ true → known t seen ≡ false
     → drop at bs ≡ ticket_bytes t ++ post → (next_at n bs seen at ≡ Ok (t, at + length (ticket_bytes t))) × (drop (at + length (ticket_bytes t)) bs ≡ post)
 unfolding next_at
-next_back n bs seen at t post h r f k e =
-    let b = ticket_back n bs at t post h r e in (
-      then_ok (raise lf.Ticket (ticket_at n bs at)) t (at + length (ticket_bytes t)) _ (raise_ok lf.Ticket (ticket_at n bs at) (t, at + length (ticket_bytes t)) b.0)
-          ∙ cond-true (follows t seen) _ _ f ∙ cond-false (known t seen) _ _ k,
-      b.1,
-    )
+next_back n bs seen at t post h r f k e = let b = ticket_back n bs at t post h r e in grind (arith, common_steps)
 
 next_only : (n : ℕ) (bs : List ℕ) (seen : List Ticket) (at : ℕ) (t : Ticket) (next : ℕ) → Bytes bs → next_at n bs seen at ≡ Ok (t, next)
     → TicketRead n bs at t next × (follows t seen ≡ true) × (known t seen ≡ false)
@@ -50,20 +46,15 @@ next_only n bs seen at t next small e =
 -- ---- the tickets of a list
 
 past_end : (bs : List ℕ) (at : ℕ) → drop at bs ≡ [] → length bs ≤ at
-past_end bs at e = let l : length bs - at ≡ 0 = sym (length-drop at bs) ∙ ap length e in omega arith
+past_end bs at e = omega (arith, length-drop at bs, ap length e)
 
 pub list_back : (n : ℕ) (bs : List ℕ) (seen ts : List Ticket) (at : ℕ) → n ≤ max_beds → After n seen ts → drop at bs ≡ tickets_bytes ts
     → list_reading n bs (length ts) seen at ≡ parts_at at ts
-list_back n bs seen [] at h a e = cond-false (ltb at (length bs)) (faulty (wf.Spare at)) (ended at) (le-ltb at (length bs) (past_end bs at e))
+list_back n bs seen [] at h a e = grind (arith, nat_tests, past_end bs at e)
 list_back n bs seen (t ∷ ts) at h a e =
     let b = next_back n bs seen at t (tickets_bytes ts) h a.0 a.1 a.2 e in
     let r = list_back n bs (seen ++ t ∷ []) ts (at + length (ticket_bytes t)) h a.3 b.1 in
-    let z : at + length (ticket_bytes t) - at ≡ length (ticket_bytes t) = omega arith in
-    let s : take (at + length (ticket_bytes t) - at) (drop at bs) ≡ ticket_bytes t =
-    ap (λ (k : ℕ). take k (drop at bs)) z ∙ ap (take (length (ticket_bytes t))) e ∙ take_at (ticket_bytes t) (tickets_bytes ts) (length (ticket_bytes t)) refl in
-    ap (λ (x : Result (Ticket × ℕ) ListFault). ticket_first bs at x (λ u next. list_reading n bs (length ts) (seen ++ u ∷ []) next)) b.0
-    ∙ ap (λ (x : List ℕ). ticket at x t (list_reading n bs (length ts) (seen ++ t ∷ []) (at + length (ticket_bytes t)))) s
-    ∙ ap (ticket at (ticket_bytes t) t) r
+    grind (arith, common_steps)
 
 map_inv : (t : Ticket) (ts : List Ticket) (r : Result (List Ticket) WholeFault) → map_ok (λ us. t ∷ us) r ≡ Ok ts → (us : List Ticket) × (r ≡ Ok us) × (t ∷ us ≡ ts)
 map_inv t ts (Ok us) e = (us, refl, ok_same (t ∷ us) ts e)
@@ -74,34 +65,21 @@ first_inv : (bs : List ℕ) (at : ℕ) (r : Result (Ticket × ℕ) ListFault) (r
 first_inv bs at (Ok p) rest ts e = let m = map_inv p.0 ts (tickets_of (rest p.0 p.1)) e in (p.0, p.1, m.0, refl, m.1, m.2)
 first_inv bs at (Err f) rest ts e = absurd (never (wf.List f) ts e)
 
-no_spare : (bs : List ℕ) (at : ℕ) (ts : List Ticket) (b : Bool) → b ≡ ltb at (length bs) → tickets_of (cond b (faulty (wf.Spare at)) (ended at)) ≡ Ok ts → ([] ≡ ts) × (length bs ≤ at)
-no_spare bs at ts true q e = absurd (never (wf.Spare at) ts e)
-no_spare bs at ts false q e = (ok_same [] ts e, ltb-false at (length bs) (sym q))
-
 pub list_only : (n : ℕ) (bs : List ℕ) (due : ℕ) (seen : List Ticket) (at : ℕ) (ts : List Ticket) → Bytes bs → tickets_of (list_reading n bs due seen at) ≡ Ok ts
     → After n seen ts × (length ts ≡ due) × (drop at bs ≡ tickets_bytes ts)
-list_only n bs zero seen at ts small e =
-    let s = no_spare bs at ts (ltb at (length bs)) refl e in
-    subst (λ (us : List Ticket). After n seen us × (length us ≡ 0) × (drop at bs ≡ tickets_bytes us)) s.0 (tt, refl, drop_all at bs s.1)
+list_only n bs zero seen at ts small e = grind (arith, common_steps, drop_all at bs)
 list_only n bs (suc due) seen at ts small e =
     let p = first_inv bs at (next_at n bs seen at) (λ u next. list_reading n bs due (seen ++ u ∷ []) next) ts e in
     let q = next_only n bs seen at p.0 p.1 small p.3 in
     let r = list_only n bs due (seen ++ p.0 ∷ []) p.1 p.2 small p.4 in
-    subst (λ (us : List Ticket). After n seen us × (length us ≡ suc due) × (drop at bs ≡ tickets_bytes us)) p.5
-    ((q.0.ranged, q.1, q.2, r.0), ap suc r.1, q.0.bytes ∙ ap (λ (l : List ℕ). ticket_bytes p.0 ++ l) r.2)
+    rw (← p.5) ((q.0.ranged, q.1, q.2, r.0), ap suc r.1, q.0.bytes ∙ ap (λ (l : List ℕ). ticket_bytes p.0 ++ l) r.2)
 
 -- ---- batches
 
 pub batch_back : (n : ℕ) (ts : List Ticket) → n ≤ max_beds → Sound n batch_tickets ts
     → batch_reading n (batch_bytes ts) ≡ head (hd.Batch (length ts)) (parts_at (length (form (length ts))) ts)
 unfolding batch_reading batch_head list_bytes
-batch_back n ts h s =
-    let bs : List ℕ = form (length ts) ++ tickets_bytes ts in
-    let c = ranged_back lf.Number lf.Count bs 0 (length ts) 0 (batch_tickets + 1) (tickets_bytes ts) (omega arith) (omega (arith, s.few)) (omega (arith, s.few)) refl in
-    let z : 0 + length (form (length ts)) ≡ length (form (length ts)) = omega arith in
-    let r = list_back n bs [] ts (0 + length (form (length ts))) h (sound_after n ts s.ranged s.rising s.apart) c.1 in
-    ap (λ (x : Result (ℕ × ℕ) ListFault). head_first (and_then (raise wf.List x) (λ count next. Ok (hd.Batch count, next))) (λ hd next. list_reading n bs (count_of hd) [] next)) c.0
-    ∙ ap (head (hd.Batch (length ts))) (r ∙ ap (λ (k : ℕ). parts_at k ts) z)
+batch_back n ts h s = grind (arith, common_steps, ranged_back, list_back, sound_after)
 
 head_inv : (r : Result (Head × ℕ) WholeFault) (rest : Head → ℕ → Reading) (ts : List Ticket) → tickets_of (head_first r rest) ≡ Ok ts
     → (h : Head) × (next : ℕ) × (r ≡ Ok (h, next)) × (tickets_of (rest h next) ≡ Ok ts)
@@ -123,68 +101,31 @@ batch_only n bs ts small e =
     let r = list_only n bs q.0 [] q.1 ts small t in
     record {
       sound = list_sound n batch_tickets ts r.0 (omega (arith, r.1, c.2));
-      bytes = c.0.bytes ∙ ap (λ (l : List ℕ). form q.0 ++ l) r.2 ∙ ap (λ (k : ℕ). form k ++ tickets_bytes ts) (sym r.1);
+      bytes = grind (arith, c.0.bytes);
     }
 
 parts_tickets : (at : ℕ) (ts : List Ticket) → tickets_of (parts_at at ts) ≡ Ok ts
 parts_tickets at [] = refl
-parts_tickets at (t ∷ ts) = ap (map_ok (λ us. t ∷ us)) (parts_tickets (at + length (ticket_bytes t)) ts)
+parts_tickets at (t ∷ ts) = grind (arith, parts_tickets (at + length (ticket_bytes t)) ts)
 
 pub batch_whole : (n : ℕ) (bs : List ℕ) (ts : List Ticket) → n ≤ max_beds → IsBatch n bs ts → batch_of n bs ≡ Ok ts
 unfolding batch_of
-batch_whole n bs ts h b =
-    ap (λ (x : List ℕ). tickets_of (batch_reading n x)) b.bytes ∙ ap tickets_of (batch_back n ts h b.sound) ∙ parts_tickets (length (form (length ts))) ts
-
-faulty_same : (f g : WholeFault) → faulty f ≡ faulty g → f ≡ g
-faulty_same f g e = cc
+batch_whole n bs ts h b = grind (arith, common_steps, batch_back n ts h b.sound, parts_tickets)
 
 head_same : (g h : Head) (x y : Reading) → head g x ≡ head h y → (g ≡ h) × (x ≡ y)
 head_same g h x y e = (cc, cc)
 
 -- ---- packets
 
-mark-length : (bs : List ℕ) → length (mark ++ bs) ≡ 4 + length bs
-mark-length bs = omega arith
-
 pub packet_back : (n bed round : ℕ) (ts : List Ticket) → n ≤ max_beds → SoundPacket n bed round ts
     → packet_reading n (packet_bytes bed round ts)
     ≡ head (hd.Packet bed round (length ts)) (parts_at (length mark + length (form bed) + length (form round) + length (form (length ts))) ts)
 unfolding packet_reading packet_head packet_bytes list_bytes
-packet_back n bed round ts h s =
-    let tail : List ℕ = form bed ++ (form round ++ (form (length ts) ++ tickets_bytes ts)) in
-    let bs : List ℕ = mark ++ form bed ++ form round ++ (form (length ts) ++ tickets_bytes ts) in
-    let e : bs ≡ mark ++ tail = append_assoc (mark ++ form bed) (form round) _ ∙ append_assoc mark (form bed) _ in
-    let long : length mark ≤ length bs = omega (arith, ap length e, mark-length tail) in
-    let d : drop (length mark) bs ≡ tail = ap (drop (length mark)) e in
-    let b = ranged_back wf.Number wf.Head bs (length mark) bed 0 n (form round ++ (form (length ts) ++ tickets_bytes ts)) (omega arith) s.bed_in (omega (arith, s.bed_in)) d in
-    let r = ranged_back wf.Number wf.Head bs (length mark + length (form bed)) round 0 (max_round + 1) (form (length ts) ++ tickets_bytes ts) (omega arith) (omega (arith, s.round_in)) (omega (arith, s.round_in)) b.1 in
-    let c = ranged_back lf.Number lf.Count bs (length mark + length (form bed) + length (form round)) (length ts) 0 (packet_tickets + 1) (tickets_bytes ts) (omega arith) (omega (arith, s.sound.few)) (omega (arith, s.sound.few)) r.1 in
-    let at : ℕ = length mark + length (form bed) + length (form round) + length (form (length ts)) in
-    let l = list_back n bs [] ts at h (sound_after n ts s.sound.ranged s.sound.rising s.sound.apart) c.1 in
-    let p : packet_head n bs packet_tickets ≡ Ok (hd.Packet bed round (length ts), at) =
-    cond-false (ltb (length bs) (length mark)) _ _ (le-ltb (length bs) (length mark) long)
-    ∙ then_ok (head_at bs (length mark) n) bed (length mark + length (form bed)) _ b.0
-    ∙ then_ok (head_at bs (length mark + length (form bed)) (max_round + 1)) round (length mark + length (form bed) + length (form round)) _ r.0
-    ∙ then_ok (raise wf.List (count_at bs (length mark + length (form bed) + length (form round)) packet_tickets)) (length ts) at _
-    (raise_ok wf.List (count_at bs (length mark + length (form bed) + length (form round)) packet_tickets) (length ts, at) c.0) in
-    ap (λ (x : Result (Head × ℕ) WholeFault). head_first x (λ hd next. list_reading n bs (count_of hd) [] next)) p
-    ∙ ap (head (hd.Packet bed round (length ts))) l
+packet_back n bed round ts h s = grind (arith, common_steps, ranged_back, list_back, sound_after)
 
 -- what the first bytes are where the mark is right
 marked_only : (bs : List ℕ) → marked bs ≡ true → length mark ≤ length bs → bs ≡ mark ++ drop (length mark) bs
-marked_only [] m h = absurd (omega arith)
-marked_only (a ∷ []) m h = absurd (omega arith)
-marked_only (a ∷ b ∷ []) m h = absurd (omega arith)
-marked_only (a ∷ b ∷ c ∷ []) m h = absurd (omega arith)
-marked_only (a ∷ b ∷ c ∷ d ∷ bs) m h =
-    let p = and_parts (eqb a 0x4A) _ m in
-    let q = and_parts (eqb b 0x4F) _ p.1 in
-    let r = and_parts (eqb c 0x42) _ q.1 in
-    let ea = eqb-true a 0x4A p.0 in
-    let eb = eqb-true b 0x4F q.0 in
-    let ec = eqb-true c 0x42 r.0 in
-    let ed = eqb-true d 0x47 r.1 in
-    cc
+marked_only bs m h = grind (arith, nat_tests)
 
 -- what it says that the bytes start with the mark
 pub starts_marked : (bs : List ℕ) (r : Bool) → length mark ≤ length bs → r ≡ pointwise eqb mark (take (length mark) bs) → r ≡ marked bs
@@ -224,10 +165,7 @@ packet_head_only n bs most h next small e =
       bed_in = b.2;
       round_in = omega (arith, o.2);
       few = omega (arith, c.2);
-      bytes = marked_only bs c2.0 long
-          ∙ ap (λ (x : List ℕ). mark ++ x) (b.0.bytes ∙ ap (λ (x : List ℕ). form p.0 ++ x) (o.0.bytes ∙ ap (λ (x : List ℕ). form q.0 ++ x) c.0.bytes))
-          ∙ sym (append_assoc (mark ++ form p.0) (form q.0) _ ∙ append_assoc mark (form p.0) _)
-          ∙ ap (λ (x : Head × ℕ). mark ++ form p.0 ++ form q.0 ++ (form r.0 ++ drop x.1 bs)) s;
+      bytes = marked_only bs c2.0 long ∙ grind (arith, common_steps, b.0.bytes, o.0.bytes, c.0.bytes);
     }
 
 -- the tickets that come after a packet's head
@@ -240,28 +178,16 @@ packet_list_only n bs h next ts small r e =
       c,
       record {
         sound = record { bed_in = r.bed_in; round_in = r.round_in; sound = list_sound n packet_tickets ts l.0 (omega (arith, c, r.few)) };
-        bytes = r.bytes
-            ∙ ap (λ (x : List ℕ). mark ++ form r.bed ++ form r.round ++ (form r.count ++ x)) l.2
-            ∙ ap (λ (k : ℕ). mark ++ form r.bed ++ form r.round ++ (form k ++ tickets_bytes ts)) (sym c);
+        bytes = grind (arith, r.bytes);
       },
     )
-
--- which head a reading begins with
-first_faulty : (r : Result (Head × ℕ) WholeFault) (rest : Head → ℕ → Reading) (f : WholeFault) → head_first r rest ≡ faulty f → r ≡ Err f
-first_faulty (Ok p) rest f e = let z : ◌≡◌ {A = ℕ} 0 1 = cc in absurd (omega arith)
-first_faulty (Err g) rest f e = ap Err (faulty_same g f e)
 
 first_head : (r : Result (Head × ℕ) WholeFault) (rest : Head → ℕ → Reading) (h : Head) (x : Reading) → head_first r rest ≡ head h x
     → (next : ℕ) × (r ≡ Ok (h, next)) × (x ≡ rest h next)
 first_head (Ok p) rest h x e =
     let s = head_same p.0 h (rest p.0 p.1) x e in
     (p.1, ap (λ (g : Head). Ok (g, p.1)) s.0, sym s.1 ∙ ap (λ (g : Head). rest g p.1) s.0)
-first_head (Err g) rest h x e = let z : ◌≡◌ {A = ℕ} 0 1 = cc in absurd (omega arith)
-
--- a packet's reading and its parts at once
-pub packet_faulty : (n : ℕ) (bs : List ℕ) (f : WholeFault) → packet_reading n bs ≡ faulty f → packet_head n bs packet_tickets ≡ Err f
-unfolding packet_reading
-packet_faulty n bs f e = first_faulty (packet_head n bs packet_tickets) _ f e
+first_head (Err g) rest h x e = absurd cc
 
 pub packet_begins : (n : ℕ) (bs : List ℕ) (h : Head) (rest : Reading) → packet_reading n bs ≡ head h rest
     → (next : ℕ) × (packet_head n bs packet_tickets ≡ Ok (h, next)) × (rest ≡ list_reading n bs (count_of h) [] next)
@@ -270,9 +196,4 @@ packet_begins n bs h rest e = first_head (packet_head n bs packet_tickets) (λ g
 
 pub packet_whole : (n : ℕ) (bs : List ℕ) (bed round : ℕ) (ts : List Ticket) → n ≤ max_beds → IsPacket n bs bed round ts → packet_of n bs ≡ Ok (hd.Packet bed round (length ts), ts)
 unfolding packet_of
-packet_whole n bs bed round ts h p =
-    let r = ap (packet_reading n) p.bytes ∙ packet_back n bed round ts h p.sound in
-    let b = packet_begins n bs (hd.Packet bed round (length ts)) _ r in
-    then_ok (packet_head n bs packet_tickets) (hd.Packet bed round (length ts)) b.0 _ b.1
-    ∙ ap (λ (x : Reading). map_ok (λ us. (hd.Packet bed round (length ts), us)) (tickets_of x)) (sym b.2)
-    ∙ ap (map_ok (λ us. (hd.Packet bed round (length ts), us))) (parts_tickets (length mark + length (form bed) + length (form round) + length (form (length ts))) ts)
+packet_whole n bs bed round ts h p = let b = packet_back n bed round ts h p.sound in grind (arith, common_steps, packet_begins, parts_tickets)

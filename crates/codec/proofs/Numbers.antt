@@ -1,7 +1,8 @@
 -- Numbers: what is written is read again, and what is read has one form.
-use Rattle.std.proofs.Common.{◌≡◌, ℕ, zero, suc, ◌+◌, ◌-◌, ◌*◌, ◌/◌, ◌%◌, ◌<◌, ◌≤◌, true, false, cond, ◌&&◌, eqb, ltb, List, [], ◌∷◌, ◌++◌, length, get_or, drop, Ok, Err, Result, sym, refl, ap, ◌∙◌, subst, inl, inr, mul_assoc, mul_comm, mul-le-mul, mul-add, arith}
+use Rattle.std.proofs.Common.{◌≡◌, ℕ, zero, suc, ◌+◌, ◌-◌, ◌*◌, ◌/◌, ◌%◌, ◌<◌, ◌≤◌, cond, ◌&&◌, eqb, ltb, min, List, [], ◌∷◌, ◌++◌, length, get_or, take, drop, Ok, Err, Result, sym, refl, ap, ◌∙◌, inl, inr, mul_assoc, mul_comm, mul-le-mul, mul-add, length-drop, length-take-le, get_or-take, get_or-drop, arith, add-one}
 use Rattle.std.proofs.lemmas.List.{drop_more, drop_all}
-use Rattle.std.proofs.lemmas.Bool.{cond-true, cond-false, lt-ltb, le-ltb, cases_lt}
+use Rattle.std.proofs.lemmas.Bool.Decides.{nat_tests}
+use Rattle.std.proofs.lemmas.Bool.{cond-false, le-ltb, cases_lt}
 use Rattle.codec.specs.Limits.{number_bytes, number_end}
 use Rattle.codec.specs.Number.{groups, form, above, groups_at, fault_at, number_at, Bytes, group_value, Continued}
 use Rattle.codec.specs.Laws.{NumberLaws}
@@ -39,14 +40,12 @@ scaled_above v s low (Err c) = refl
 -- one byte with the top bit set
 pub group_more : (bs : List ℕ) (done left at : ℕ) → at < length bs → 128 ≤ get_or bs at 0
     → groups_at bs done (suc left) at ≡ above (get_or bs at 0 - 128) (groups_at bs (done + 1) left (at + 1))
-group_more bs done left at h g =
-    cond-true (ltb at (length bs)) _ _ (lt-ltb at (length bs) h) ∙ cond-false (ltb (get_or bs at 0) 128) _ _ (le-ltb (get_or bs at 0) 128 g)
+group_more bs done left at h g = grind (arith, nat_tests)
 
 -- the last byte
 pub group_last : (bs : List ℕ) (done left at : ℕ) → at < length bs → get_or bs at 0 < 128
     → groups_at bs done (suc left) at ≡ cond (eqb (get_or bs at 0) 0 && ltb 0 done) (Err NotShortest) (Ok (get_or bs at 0, at + 1))
-group_last bs done left at h g =
-    cond-true (ltb at (length bs)) _ _ (lt-ltb at (length bs) h) ∙ cond-true (ltb (get_or bs at 0) 128) _ _ (lt-ltb (get_or bs at 0) 128 g)
+group_last bs done left at h g = grind (arith, nat_tests)
 
 pub group_none : (bs : List ℕ) (done left at : ℕ) → length bs ≤ at → groups_at bs done (suc left) at ≡ Err Ends
 group_none bs done left at h = cond-false (ltb at (length bs)) _ _ (le-ltb at (length bs) h)
@@ -63,14 +62,7 @@ so_next : (bs : List ℕ) (at i v s next : ℕ) → i < number_bytes → So bs a
     → groups_at bs 0 number_bytes at ≡ scaled v s (groups_at bs i (suc (number_bytes - (i + 1))) next)
 so_next bs at i v s next h so = so ∙ ap (λ (k : ℕ). scaled v s (groups_at bs i k next)) (left_more i h)
 
-is_number : (bs : List ℕ) (at : ℕ) (r : Result (ℕ × ℕ) NumberCause) → groups_at bs 0 number_bytes at ≡ r → fault_at at r ≡ number_at bs at
-unfolding number_at
-is_number bs at r e = ap (fault_at at) (sym e)
-
 -- before the first byte
-pub read_start_at : (at : ℕ) → at ≡ at + 0
-read_start_at at = omega arith
-
 scaled_none : (r : Result (ℕ × ℕ) NumberCause) → r ≡ scaled 0 1 r
 scaled_none (Ok p) = let e : p.0 ≡ 0 + 1 * p.0 = omega arith in ap (λ (x : ℕ). Ok (x, p.1)) e
 scaled_none (Err c) = refl
@@ -78,67 +70,58 @@ scaled_none (Err c) = refl
 pub read_start : (bs : List ℕ) (at : ℕ) → So bs at 0 0 1 at
 read_start bs at = scaled_none (groups_at bs 0 number_bytes at)
 
-pub read_ends : (bs : List ℕ) (at i v s next : ℕ) → i < number_bytes → So bs at i v s next → length bs ≤ next
-    → Err (record { cause = Ends; place = at }) ≡ number_at bs at
-read_ends bs at i v s next h so n =
-    is_number bs at (Err Ends) (so_next bs at i v s next h so ∙ ap (scaled v s) (group_none bs i (number_bytes - (i + 1)) next n))
-
 pub read_long : (bs : List ℕ) (at i v s next : ℕ) → i < number_bytes → So bs at i v s next → next < length bs → get_or bs next 0 ≡ 0 → 0 < i
-    → Err (record { cause = NotShortest; place = at }) ≡ number_at bs at
-read_long bs at i v s next h so n z p =
-    let b : get_or bs next 0 < 128 = omega arith in
-    let t : (eqb (get_or bs next 0) 0 && ltb 0 i) ≡ true = grind arith in
-    is_number bs at (Err NotShortest) (so_next bs at i v s next h so
-    ∙ ap (scaled v s) (group_last bs i (number_bytes - (i + 1)) next n b ∙ cond-true (eqb (get_or bs next 0) 0 && ltb 0 i) _ _ t))
+    → Err NotShortest ≡ groups_at bs 0 number_bytes at
+read_long bs at i v s next h so n z p = grind (arith, nat_tests, so_next bs at i v s next h so)
 
 pub read_last : (bs : List ℕ) (at i v s next : ℕ) → i < number_bytes → So bs at i v s next → next < length bs → get_or bs next 0 < 128
-    → (get_or bs next 0 ≡ 0 → 0 < i → ⊥) → Ok (v + get_or bs next 0 * s, next + 1) ≡ number_at bs at
+    → (get_or bs next 0 ≡ 0 → 0 < i → ⊥) → Ok (v + get_or bs next 0 * s, next + 1) ≡ groups_at bs 0 number_bytes at
 read_last bs at i v s next h so n b z =
-    let t : (eqb (get_or bs next 0) 0 && ltb 0 i) ≡ false = grind arith in
     let m : s * get_or bs next 0 ≡ get_or bs next 0 * s = mul_comm s (get_or bs next 0) in
-    is_number bs at (Ok (v + get_or bs next 0 * s, next + 1)) (so_next bs at i v s next h so
-    ∙ ap (scaled v s) (group_last bs i (number_bytes - (i + 1)) next n b ∙ cond-false (eqb (get_or bs next 0) 0 && ltb 0 i) _ _ t)
-    ∙ ap (λ (x : ℕ). Ok (v + x, next + 1)) m)
+    grind (arith, nat_tests, so_next bs at i v s next h so)
 
 pub read_more : (bs : List ℕ) (at i v s next : ℕ) → i < number_bytes → So bs at i v s next → next < length bs → 128 ≤ get_or bs next 0
     → So bs at (i + 1) (v + (get_or bs next 0 - 128) * s) (s * 128) (next + 1)
-read_more bs at i v s next h so n g =
-    so_next bs at i v s next h so
-    ∙ ap (scaled v s) (group_more bs i (number_bytes - (i + 1)) next n g)
-    ∙ scaled_above v s (get_or bs next 0 - 128) (groups_at bs (i + 1) (number_bytes - (i + 1)) (next + 1))
+read_more bs at i v s next h so n g = grind (arith, nat_tests, so_next bs at i v s next h so, scaled_above)
 
-pub read_over : (bs : List ℕ) (at i v s next : ℕ) → number_bytes ≤ i → So bs at i v s next → Err (record { cause = NotShortest; place = at }) ≡ number_at bs at
-read_over bs at i v s next h so =
-    let z : number_bytes - i ≡ 0 = omega arith in
-    is_number bs at (Err NotShortest) (so ∙ ap (λ (k : ℕ). scaled v s (groups_at bs i k next)) z)
+-- the bytes from a place on, at most as many as a number has
+abbrev pub window : List ℕ → ℕ → ℕ → List ℕ
+window bs from m = take m (take (length bs - from) (drop from bs))
+
+module _ (bs : List ℕ) (at from m : ℕ) (ef : from ≡ min at (length bs)) (em : m ≡ min (length (take (length bs - from) (drop from bs))) number_bytes) where
+  rest_length : length (take (length bs - from) (drop from bs)) ≡ length bs - from
+  rest_length = length-take-le (length bs - from) (drop from bs) (omega (arith, length-drop from bs))
+
+  window_length : length (window bs from m) ≡ m
+  window_length = length-take-le m _ (omega arith)
+
+  pub window_at : (i : ℕ) → i < length (window bs from m) → (i < number_bytes) × (at + i < length bs) × (get_or (window bs from m) i 0 ≡ get_or bs (at + i) 0)
+  window_at i h =
+      let l = window_length in
+      let r = rest_length in
+      let here : from ≡ at = omega arith in (
+        omega arith,
+        omega arith,
+        get_or-take m _ i 0 (omega arith) ∙ get_or-take (length bs - from) _ i 0 (omega arith) ∙ get_or-drop from bs i 0 ∙ ap (λ (k : ℕ). get_or bs (k + i) 0) here,
+      )
 
 -- the sum of a turn stays below the next scale, and so below the limit
 pub below_next : (v s b : ℕ) → v < s → b < 128 → v + b * s < s * 128
-below_next v s b l k =
-    let m : b * s ≤ 127 * s = mul-le-mul {n₁ = b} {m₁ = s} {n₂ = 127} {m₂ = s} (omega arith) (omega arith) in
-    omega arith
+below_next v s b l k = grind (arith, mul-le-mul {n₁ = b} {m₁ = s} {n₂ = 127} {m₂ = s})
 
 pub room_next : (i s : ℕ) → s ≡ room i → s * 128 ≡ room (i + 1)
-room_next i s e = let n : i + 1 ≡ suc i = omega arith in rw n (omega arith)
-
-pub scale_fits : (i s : ℕ) → i < number_bytes → s ≡ room i → s * 128 ≤ number_end
-scale_fits i s h e = let r : room (suc i) ≤ room number_bytes = room_more (suc i) number_bytes (omega arith) in omega arith
+room_next i s e = rw add-one (omega arith)
 
 -- ---- the form
 
 pub groups_last : (k v : ℕ) → 0 < k → v < 128 → groups k v ≡ v ∷ []
 groups_last zero v p h = absurd (omega arith)
-groups_last (suc k) v p h = cond-true (ltb v 128) _ _ (lt-ltb v 128 h)
+groups_last (suc k) v p h = grind (arith, nat_tests)
 
 -- a number of 128 or more: its lowest group, and the form of the rest
 pub groups_step : (k v : ℕ) → v < room (suc k) → 128 ≤ v → (0 < k) × (v / 128 < room k) × (groups (suc k) v ≡ (v % 128 + 128) ∷ groups k (v / 128))
 groups_step zero v h g = absurd (omega arith)
-groups_step (suc k) v h g = (omega arith, omega arith, cond-false (ltb v 128) _ _ (le-ltb v 128 g))
-
--- the same with any number of groups
-pub groups_more : (k v : ℕ) → v < room k → 128 ≤ v → (j : ℕ) × (k ≡ suc j) × (0 < j) × (v / 128 < room j) × (groups k v ≡ (v % 128 + 128) ∷ groups j (v / 128))
-groups_more zero v h g = absurd (omega arith)
-groups_more (suc k) v h g = let s = groups_step k v h g in (k, refl, s.0, s.1, s.2)
+groups_step (suc k) v h g = grind (arith, nat_tests)
 
 pub form_is : (v : ℕ) → form v ≡ groups number_bytes v
 unfolding form
@@ -150,12 +133,7 @@ groups_some (suc k) v p = grind arith
 
 groups_short : (k v : ℕ) → length (groups k v) ≤ k
 groups_short zero v = omega arith
-groups_short (suc k) v =
-    let r = groups_short k (v / 128) in
-    elim (cases_lt v 128) [
-      | inl l ↦ rw (cond-true (ltb v 128) (v ∷ []) ((v % 128 + 128) ∷ groups k (v / 128)) (lt-ltb v 128 l)) (omega arith)
-      | inr g ↦ rw (cond-false (ltb v 128) (v ∷ []) ((v % 128 + 128) ∷ groups k (v / 128)) (le-ltb v 128 g)) (omega arith)
-    ]
+groups_short (suc k) v = grind (arith, nat_tests, groups_short k (v / 128))
 
 pub form_some : (v : ℕ) → 0 < length (form v)
 form_some v = rw (form_is v) (groups_some number_bytes v (omega arith))
@@ -173,11 +151,8 @@ pub drop_first : (bs : List ℕ) (at x : ℕ) (xs : List ℕ) → drop at bs ≡
 drop_first bs at x xs e =
     elim (cases_lt at (length bs)) [
       | inl h ↦ (let d = drop_more bs at 0 h in (h, cc, cc))
-      | inr g ↦ (let d = drop_all at bs g in let z : ◌≡◌ {A = ℕ} 0 1 = cc in absurd (omega arith))
+      | inr g ↦ (let d = drop_all at bs g in absurd cc)
     ]
-
-above_ok : (low v next : ℕ) (r : Result (ℕ × ℕ) NumberCause) → r ≡ Ok (v, next) → above low r ≡ Ok (low + 128 * v, next)
-above_ok low v next r e = ap (above low) e
 
 pub groups_back : (k v : ℕ) (bs : List ℕ) (done at : ℕ) (post : List ℕ) → 0 < k → v < room k → (v ≡ 0 → 0 < done → ⊥) → drop at bs ≡ groups k v ++ post
     → (groups_at bs done k at ≡ Ok (v, at + length (groups k v))) × (drop (at + length (groups k v)) bs ≡ post)
@@ -186,35 +161,19 @@ groups_back (suc k) v bs done at post p h z e =
     elim (cases_lt v 128) [
       | inl l ↦
           (let g = groups_last (suc k) v p l in
-          let d = drop_first bs at v post (e ∙ ap (λ (x : List ℕ). x ++ post) g) in
-          let b : get_or bs at 0 < 128 = omega (arith, d.1) in
-          let t : (eqb (get_or bs at 0) 0 && ltb 0 done) ≡ false = rw d.1 (grind arith) in
-          let n : at + length (groups (suc k) v) ≡ at + 1 = ap (λ (x : List ℕ). at + length x) g in (
-            group_last bs done k at d.0 b ∙ cond-false (eqb (get_or bs at 0) 0 && ltb 0 done) _ _ t
-                ∙ ap (λ (x : ℕ). Ok (x, at + 1)) d.1 ∙ ap (λ (x : ℕ). Ok (v, x)) (sym n),
-            ap (λ (x : ℕ). drop x bs) n ∙ d.2,
-          ))
+          let d = drop_first bs at v post (rw g at e) in
+          grind (arith, nat_tests))
       | inr g ↦
           (let m = groups_step k v h g in
-          let f : groups (suc k) v ≡ (v % 128 + 128) ∷ groups k (v / 128) = m.2 in
-          let d = drop_first bs at (v % 128 + 128) (groups k (v / 128) ++ post) (e ∙ ap (λ (x : List ℕ). x ++ post) f) in
-          let b : 128 ≤ get_or bs at 0 = omega (arith, d.1) in
-          let nz : v / 128 ≡ 0 → 0 < done + 1 → ⊥ = λ q w. omega arith in
-          let r = groups_back k (v / 128) bs (done + 1) (at + 1) post m.0 m.1 nz d.2 in
-          let n : at + 1 + length (groups k (v / 128)) ≡ at + length (groups (suc k) v) = omega (arith, ap length f) in
-          let w : get_or bs at 0 - 128 + 128 * (v / 128) ≡ v = omega (arith, d.1) in (
-            group_more bs done k at d.0 b ∙ above_ok (get_or bs at 0 - 128) (v / 128) _ _ r.0
-                ∙ ap (λ (x : ℕ). Ok (x, at + 1 + length (groups k (v / 128)))) w ∙ ap (λ (x : ℕ). Ok (v, x)) n,
-            ap (λ (x : ℕ). drop x bs) (sym n) ∙ r.1,
-          ))
+          let d = drop_first bs at (v % 128 + 128) (groups k (v / 128) ++ post) (rw m.2 at e) in
+          let r = groups_back k (v / 128) bs (done + 1) (at + 1) post m.0 m.1 (λ q w. omega arith) d.2 in
+          grind (arith, nat_tests, ap length m.2))
     ]
 
 pub number_back : (bs : List ℕ) (at v : ℕ) (post : List ℕ) → v < number_end → drop at bs ≡ form v ++ post
     → (number_at bs at ≡ Ok (v, at + length (form v))) × (drop (at + length (form v)) bs ≡ post)
 unfolding number_at form
-number_back bs at v post h e =
-    let r = groups_back number_bytes v bs 0 at post (omega arith) h (λ q w. omega arith) e in
-    (ap (fault_at at) r.0, r.1)
+number_back bs at v post h e = grind (arith, groups_back number_bytes v bs 0 at post (omega arith) h (λ q w. omega arith) e)
 
 -- ---- what is read has the form of what it is read as
 
@@ -242,42 +201,25 @@ groups_only (suc k) bs done at v next small e =
             (let g = sym (group_last bs done k at h b) ∙ e in
             let c = cond_err (eqb (get_or bs at 0) 0 && ltb 0 done) NotShortest (Ok (get_or bs at 0, at + 1)) (v, next) g in
             let s = ok_same (get_or bs at 0, at + 1) (v, next) c.1 in
-            let x : get_or bs at 0 ≡ v = ap (λ (p : ℕ × ℕ). p.0) s in
-            let y : at + 1 ≡ next = ap (λ (p : ℕ × ℕ). p.1) s in
-            let l : v < 128 = omega arith in
-            let f = groups_last (suc k) v (omega arith) l in
+            let f = groups_last (suc k) (get_or bs at 0) (omega arith) b in
             let r = room_more zero k (omega arith) in
-            record {
-              bytes = drop_more bs at 0 h ∙ ap (λ (p : ℕ × ℕ). p.0 ∷ drop p.1 bs) s ∙ ap (λ (q : List ℕ). q ++ drop next bs) (sym f);
-              below = omega arith;
-              after = omega arith;
-              within = omega arith;
-              least = λ z p. grind (arith, c.0);
-            })
+            let d = drop_more bs at 0 h in
+            record { bytes = grind arith; below = grind arith; after = grind arith; within = grind arith; least = λ z p. grind (arith, c.0) })
         | inr g ↦
             (let s = above_inv (get_or bs at 0 - 128) v next (groups_at bs (done + 1) k (at + 1)) (sym (group_more bs done k at h g) ∙ e) in
             let r = groups_only k bs (done + 1) (at + 1) s.0 next small s.1 in
             let w = small at in
             let nz : s.0 ≡ 0 → ⊥ = λ q. r.least q (omega arith) in
-            let big : 128 ≤ v = omega (arith, s.2, nz) in
             let q : v / 128 ≡ s.0 = omega (arith, s.2) in
             let m : v % 128 + 128 ≡ get_or bs at 0 = omega (arith, s.2) in
-            let f : groups (suc k) v ≡ (v % 128 + 128) ∷ groups k (v / 128) = cond-false (ltb v 128) _ _ (le-ltb v 128 big) in
-            record {
-              bytes = drop_more bs at 0 h ∙ ap (λ (x : List ℕ). get_or bs at 0 ∷ x) r.bytes
-                  ∙ ap (λ (x : ℕ). x ∷ groups k s.0 ++ drop next bs) (sym m) ∙ ap (λ (x : ℕ). (v % 128 + 128) ∷ groups k x ++ drop next bs) (sym q)
-                  ∙ ap (λ (x : List ℕ). x ++ drop next bs) (sym f);
-              below = omega (arith, s.2, r.below);
-              after = omega (arith, r.after);
-              within = r.within;
-              least = λ z p. omega arith;
-            })
+            let d = drop_more bs at 0 h in
+            record { bytes = grind (arith, nat_tests, r.bytes); below = omega (arith, s.2, r.below); after = omega (arith, r.after); within = r.within; least = λ z p. omega arith })
       ]
     ]
 
 fault_inv : (at v next : ℕ) (r : Result (ℕ × ℕ) NumberCause) → fault_at at r ≡ Ok (v, next) → r ≡ Ok (v, next)
-fault_inv at v next (Ok p) e = ap Ok (ok_same p (v, next) e)
-fault_inv at v next (Err d) e = absurd (never (record { cause = d; place = at }) (v, next) e)
+fault_inv at v next (Ok p) e = cc
+fault_inv at v next (Err d) e = cc
 
 pub record NumberRead (bs : List ℕ) (at v next : ℕ) : Type 0 where
   pub bytes : drop at bs ≡ form v ++ drop next bs
@@ -299,14 +241,7 @@ form-length v w e = ap (λ (x : ℕ). length (form x)) e
 
 groups_value : (k v : ℕ) → 0 < k → v < room k → group_value (groups k v) ≡ v
 groups_value zero v p h = absurd (omega arith)
-groups_value (suc k) v p h =
-    elim (cases_lt v 128) [
-      | inl l ↦ ap group_value (groups_last (suc k) v p l) ∙ omega arith
-      | inr g ↦
-          (let m = groups_step k v h g in
-          let r = groups_value k (v / 128) m.0 m.1 in
-          ap group_value m.2 ∙ omega arith)
-    ]
+groups_value (suc k) v p h = grind (arith, nat_tests, groups_step k v h, groups_value k (v / 128))
 
 -- a form with a byte before it that says so
 continued_more : (b : ℕ) (bs : List ℕ) → 128 ≤ b → b < 256 → Continued bs → Continued (b ∷ bs)
@@ -315,29 +250,13 @@ continued_more b (x ∷ xs) l h c = (l, h, c)
 
 groups_continued : (k v : ℕ) → 0 < k → v < room k → Continued (groups k v)
 groups_continued zero v p h = absurd (omega arith)
-groups_continued (suc k) v p h =
-    elim (cases_lt v 128) [
-      | inl l ↦ subst Continued (sym (groups_last (suc k) v p l)) l
-      | inr g ↦
-          (let m = groups_step k v h g in
-          subst Continued (sym m.2) (continued_more (v % 128 + 128) (groups k (v / 128)) (omega arith) (omega arith) (groups_continued k (v / 128) m.0 m.1)))
-    ]
+groups_continued (suc k) v p h = grind (arith, nat_tests, groups_step k v h, groups_continued k (v / 128), continued_more)
 
 groups_shortest : (k v : ℕ) (bs : List ℕ) → 0 < k → v < room k → 0 < length bs → group_value bs ≡ v → length (groups k v) ≤ length bs
 groups_shortest zero v bs p h s e = absurd (omega arith)
 groups_shortest (suc k) v [] p h s e = absurd (omega arith)
-groups_shortest (suc k) v (b ∷ []) p h s e =
-    let l : v < 128 = omega arith in
-    omega (arith, ap length (groups_last (suc k) v p l))
-groups_shortest (suc k) v (b ∷ c ∷ cs) p h s e =
-    elim (cases_lt v 128) [
-      | inl l ↦ omega (arith, ap length (groups_last (suc k) v p l))
-      | inr g ↦
-          (let m = groups_step k v h g in
-          let q : group_value (c ∷ cs) ≡ v / 128 = omega arith in
-          let r = groups_shortest k (v / 128) (c ∷ cs) m.0 m.1 (omega arith) q in
-          omega (arith, ap length m.2))
-    ]
+groups_shortest (suc k) v (b ∷ []) p h s e = grind (arith, nat_tests)
+groups_shortest (suc k) v (b ∷ c ∷ cs) p h s e = grind (arith, nat_tests, groups_step k v h, groups_shortest k (v / 128) (c ∷ cs))
 
 pub number_laws : NumberLaws
 unfolding form

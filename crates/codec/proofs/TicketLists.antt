@@ -1,9 +1,10 @@
 -- Lists of tickets: soundness one ticket at a time, and the tests against the tickets before.
-use Rattle.std.proofs.Common.{◌≡◌, ℕ, zero, suc, ◌+◌, ◌-◌, ◌<◌, Bool, true, false, ◌||◌, List, [], ◌∷◌, ◌++◌, length, get_or, take, drop, sym, refl, ap, ◌∙◌, arith}
-use Rattle.std.proofs.lemmas.List.{append-nil, append_assoc, at_drop_more}
-use Rattle.std.proofs.lemmas.Bool.{or_left, or_from, or_parts}
+use Rattle.std.proofs.Common.{◌≡◌, ℕ, zero, suc, ◌-◌, ◌<◌, true, false, List, [], ◌∷◌, ◌++◌, length, get_or, take, refl, ap, ◌∙◌, arith}
+use Rattle.std.proofs.lemmas.Bool.Decides.{nat_tests}
+use Rattle.std.proofs.lemmas.List.{append-nil, append_assoc}
+use Rattle.std.proofs.lemmas.Bool.{or_parts}
 use Rattle.codec.specs.Ticket.{same_identity, stands_before, InRange}
-use Rattle.codec.specs.TicketList.{none, Each, Pairs, Rising, Apart, known, follows, Sound}
+use Rattle.codec.specs.TicketList.{none, Each, Pairs, Rising, Apart, known, follows}
 use Rattle.codec.specs.declared.ticket.Ticket.{Ticket}
 use Rattle.codec.proofs.Orders.{order_laws}
 
@@ -45,16 +46,6 @@ pub each_take : (P : Ticket → Type 0) (k : ℕ) (ts : List Ticket) → Each P 
 each_take P k ts e = each_part P (take k ts) ts (take_part k ts) e
 
 -- ---- the tests against the tickets before
-
-pub known_here : (t : Ticket) (xs : List Ticket) (i : ℕ) → i < length xs → true ≡ same_identity (get_or xs i none) t → true ≡ known t (drop i xs)
-known_here t xs i h e = sym (at_drop_more (known t) xs i none h ∙ or_left _ _ (sym e))
-
-pub known_more : (t : Ticket) (xs : List Ticket) (i : ℕ) → i < length xs → false ≡ same_identity (get_or xs i none) t → known t (drop (i + 1) xs) ≡ known t (drop i xs)
-known_more t xs i h e = sym (at_drop_more (known t) xs i none h ∙ ap (λ (b : Bool). b || known t (drop (i + 1) xs)) (sym e))
-
-pub follows_none : (t : Ticket) (xs : List Ticket) → length xs ≡ 0 → true ≡ follows t xs
-follows_none t [] e = refl
-follows_none t (x ∷ xs) e = absurd (omega arith)
 
 pub follows_last : (t : Ticket) (xs : List Ticket) → 0 < length xs → stands_before (get_or xs (length xs - 1) none) t ≡ follows t xs
 follows_last t [] h = absurd (omega arith)
@@ -123,10 +114,8 @@ follows_each t (x ∷ y ∷ ys) l f =
 -- a ticket that stands behind each passes both tests
 behind : (t : Ticket) (xs : List Ticket) → Each (λ x. Ahead x t) xs → (follows t xs ≡ true) × (known t xs ≡ false)
 behind t [] e = (refl, refl)
-behind t (x ∷ []) e = (e.0.0, or_from (same_identity x t) false e.0.1 refl)
-behind t (x ∷ y ∷ ys) e =
-    let r = behind t (y ∷ ys) e.1 in
-    (r.0, or_from (same_identity x t) (known t (y ∷ ys)) e.0.1 r.1)
+behind t (x ∷ []) e = grind (arith, nat_tests)
+behind t (x ∷ y ∷ ys) e = let r = behind t (y ∷ ys) e.1 in grind (arith, nat_tests)
 
 line_push : (t : Ticket) (xs : List Ticket) → Line xs → Each (λ x. Ahead x t) xs → Line (xs ++ t ∷ [])
 line_push t [] l e = (tt, tt)
@@ -154,6 +143,3 @@ sound_after n ts e r a = line_after n [] ts e (line_from ts r a)
 
 pub after_sound : (n : ℕ) (ts : List Ticket) → After n [] ts → Each (InRange n) ts × Rising ts × Apart ts
 after_sound n ts a = let r = after_line n [] ts tt a in let l = line_parts ts r.1 in (r.0, l.0, l.1)
-
-pub too_many : (n most : ℕ) (ts : List Ticket) → most < length ts → Sound n most ts → ⊥
-too_many n most ts h s = omega (arith, s.few)

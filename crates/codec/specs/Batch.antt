@@ -2,10 +2,9 @@
 use Rattle.std.specs.Prelude.{◌≡◌, ℕ, List, Ok, Err, Result}
 use Rattle.codec.specs.Limits.{batch_tickets}
 use Rattle.codec.specs.TicketList.{Sound, list_bytes}
-use Rattle.codec.specs.Tickets.{listed}
+use Rattle.codec.specs.Tickets.{Tickets, listed}
 use Rattle.codec.specs.Reading.{batch_reading, tickets_of}
 use Rattle.codec.specs.declared.ticket.Ticket.{Ticket}
-use Rattle.codec.specs.declared.tickets.Tickets.{Tickets}
 use Rattle.codec.specs.declared.whole.WholeFault.{WholeFault}
 
 -- the bytes of a batch

@@ -1,5 +1,5 @@
--- Changes to a list of tickets: one more in its place, and only those that pass a test; assumes nothing.
-use Rattle.std.specs.Prelude.{Bool, cond, List, [], ◌∷◌}
+-- One ticket more in a list, in its place; assumes nothing. Those that pass a test are `filter` of the library.
+use Rattle.std.specs.Prelude.{cond, List, [], ◌∷◌}
 use Rattle.codec.specs.Ticket.{stands_before}
 use Rattle.codec.specs.declared.ticket.Ticket.{Ticket}
 
@@ -7,8 +7,3 @@ use Rattle.codec.specs.declared.ticket.Ticket.{Ticket}
 abbrev pub placed : Ticket → List Ticket → List Ticket
 placed t [] = t ∷ []
 placed t (x ∷ xs) = cond (stands_before t x) (t ∷ x ∷ xs) (x ∷ placed t xs)
-
--- the tickets that pass a test
-abbrev pub passing : (Ticket → Bool) → List Ticket → List Ticket
-passing test [] = []
-passing test (t ∷ ts) = cond (test t) (t ∷ passing test ts) (passing test ts)

@@ -7,7 +7,8 @@ use Rattle.codec.specs.TicketList.{Sound, known}
 use Rattle.codec.specs.Reading.{head, mark, batch_reading, packet_reading, parts_at}
 use Rattle.codec.specs.Batch.{batch_bytes, IsBatch, batch_of}
 use Rattle.codec.specs.Packet.{packet_bytes, SoundPacket, IsPacket, packet_of}
-use Rattle.codec.specs.Edits.{placed, passing}
+use Rattle.std.specs.List.{filter}
+use Rattle.codec.specs.Edits.{placed}
 use Rattle.codec.specs.declared.reader.Head.TheVariants as hd
 use Rattle.codec.specs.declared.ticket.Ticket.{Ticket}
 
@@ -64,4 +65,4 @@ pub record EditLaws : Type 0 where
   -- the first k
   pub first_sound : (n most k : ℕ) (ts : List Ticket) → Sound n most ts → Sound n k (take k ts)
   -- those that pass a test
-  pub passing_sound : (n most : ℕ) (test : Ticket → Bool) (ts : List Ticket) → Sound n most ts → Sound n most (passing test ts)
+  pub passing_sound : (n most : ℕ) (test : Ticket → Bool) (ts : List Ticket) → Sound n most ts → Sound n most (filter test ts)

@@ -1,7 +1,10 @@
 pub mod Limits
 pub mod Chain
+pub mod FixedVec
 pub mod Report
+pub mod Words
 pub mod Number
+pub mod Ranged
 pub mod Write
 pub mod Ticket
 pub mod TicketList

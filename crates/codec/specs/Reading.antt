@@ -2,7 +2,8 @@
 use Rattle.std.specs.Prelude.{◌≡◌, ℕ, zero, suc, ◌+◌, ◌-◌, Bool, cond, ◌&&◌, List, [], ◌∷◌, ◌++◌, length, take, drop, Ok, Err, Result, ◌==◌, nat_lt, slice_index}
 use Rattle.codec.specs.Limits.{batch_tickets, packet_tickets, max_round}
 use Rattle.codec.specs.Chain.{and_then, raise, map_ok}
-use Rattle.codec.specs.Ticket.{ranged_at, ticket_bytes}
+use Rattle.codec.specs.Ranged.{ranged_at}
+use Rattle.codec.specs.Ticket.{ticket_bytes}
 use Rattle.codec.specs.TicketList.{count_at, next_at}
 use Rattle.codec.specs.Tickets.{listed}
 use Rattle.codec.specs.declared.ticket.Ticket.{Ticket}

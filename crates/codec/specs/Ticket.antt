@@ -1,9 +1,9 @@
 -- Tickets: ranges, identity, order, byte form, and what stands at a place of the bytes; assumes nothing.
-use Rattle.std.specs.Prelude.{ℕ, ◌+◌, ◌<◌, ◌≤◌, Bool, cond, ◌&&◌, ◌||◌, List, ◌++◌, Ok, Err, Result, ◌==◌, nat_le, nat_lt}
+use Rattle.std.specs.Prelude.{ℕ, ◌+◌, ◌<◌, ◌≤◌, Bool, cond, ◌&&◌, List, ◌++◌, Ok, Result, ◌==◌, nat_lt}
 use Rattle.codec.specs.Limits.{max_paths, min_number, max_number, max_sheet}
-use Rattle.codec.specs.Chain.{and_then, raise}
-use Rattle.codec.specs.Number.{form, number_at}
-use Rattle.codec.specs.declared.number.NumberFault.{NumberFault}
+use Rattle.codec.specs.Chain.{and_then}
+use Rattle.codec.specs.Number.{form}
+use Rattle.codec.specs.Ranged.{ranged_at}
 use Rattle.codec.specs.declared.ticket.Ticket.{Ticket}
 use Rattle.codec.specs.declared.ticket.TicketFault.{TicketFault}
 use Rattle.codec.specs.declared.ticket.TicketFault.TheVariants as tf
@@ -26,11 +26,6 @@ stands_before s t =
     cond (s.paths == t.paths)
     (cond (s.origin == t.origin) (nat_lt s.number t.number) (nat_lt s.origin t.origin))
     (nat_lt s.paths t.paths)
-
--- a number at a place that is to be at least `least` and below `end`, with the faults of the layer that reads it
-unfoldable pub ranged_at : {F : Type 0} → (NumberFault → F) → (ℕ → F) → List ℕ → ℕ → ℕ → ℕ → Result (ℕ × ℕ) F
-ranged_at number range bs at least end =
-    and_then (raise number (number_at bs at)) (λ v next. cond (nat_lt v least || nat_le end v) (Err (range at)) (Ok (v, next)))
 
 abbrev pub field_at : List ℕ → ℕ → ℕ → ℕ → Result (ℕ × ℕ) TicketFault
 field_at = ranged_at tf.Number tf.Range

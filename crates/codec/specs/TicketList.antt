@@ -1,8 +1,10 @@
 -- Lists of tickets: what makes one sound, its bytes, and what stands at a place after other tickets; assumes the laws of ticket order.
-use Rattle.std.specs.Prelude.{◌≡◌, ℕ, ◌+◌, ◌≤◌, Bool, true, false, cond, ◌||◌, List, [], ◌∷◌, ◌++◌, length, Ok, Err, Result}
+use Rattle.std.specs.Prelude.{◌≡◌, ℕ, ◌+◌, ◌≤◌, Bool, true, false, cond, List, [], ◌∷◌, ◌++◌, length, Ok, Err, Result}
+use Rattle.std.specs.List.{list_any}
 use Rattle.codec.specs.Chain.{and_then, raise}
 use Rattle.codec.specs.Number.{form}
-use Rattle.codec.specs.Ticket.{same_identity, stands_before, InRange, ranged_at, ticket_at, ticket_bytes}
+use Rattle.codec.specs.Ranged.{ranged_at}
+use Rattle.codec.specs.Ticket.{same_identity, stands_before, InRange, ticket_at, ticket_bytes}
 use Rattle.codec.specs.declared.ticket.Ticket.{Ticket}
 use Rattle.codec.specs.declared.ticket_list.ListFault.{ListFault}
 use Rattle.codec.specs.declared.ticket_list.ListFault.TheVariants as lf
@@ -42,8 +44,7 @@ pub record Sound (n most : ℕ) (ts : List Ticket) : Type 0 where
 
 -- whether the identity of a ticket is among others
 abbrev pub known : Ticket → List Ticket → Bool
-known t [] = false
-known t (x ∷ xs) = same_identity x t || known t xs
+known t xs = list_any (λ x. same_identity x t) xs
 
 -- whether a ticket stands after the last of others
 abbrev pub follows : Ticket → List Ticket → Bool

@@ -1,7 +1,10 @@
 -- What a fixed list of tickets holds; assumes nothing.
-use Rattle.std.specs.Prelude.{List, take}
+use Rattle.std.specs.Prelude.{List}
+use Rattle.codec.specs.FixedVec.{FixedVec}
 use Rattle.codec.specs.declared.ticket.Ticket.{Ticket}
-use Rattle.codec.specs.declared.tickets.Tickets.{Tickets}
+
+abbrev pub Tickets : Type 0
+Tickets = FixedVec Ticket
 
 abbrev pub listed : Tickets → List Ticket
-listed l = take l.len l.items
+listed l = l.items

@@ -1,5 +1,5 @@
 -- What a value holds, and which one a batch is; assumes nothing.
-use Rattle.std.specs.Prelude.{◌≡◌, ℕ, List, take, Some, None, Ok, Err, Option, Result}
+use Rattle.std.specs.Prelude.{◌≡◌, ℕ, List, Some, None, Ok, Err, Option, Result}
 use Rattle.codec.specs.Limits.{batch_tickets}
 use Rattle.codec.specs.TicketList.{Sound}
 use Rattle.codec.specs.Batch.{batch_bytes}
@@ -9,7 +9,7 @@ use Rattle.codec.specs.declared.ticket.Ticket.{Ticket}
 use Rattle.codec.specs.declared.value.Value.{Value}
 
 abbrev pub value_bytes : Value → List ℕ
-value_bytes v = take v.len v.bytes
+value_bytes v = v.bytes.items
 
 -- what a place for a value shows
 abbrev pub shown : Option Value → Option (List ℕ)

@@ -14,6 +14,7 @@ pub struct Beds {
 
 impl Beds {
     /// A group of so many beds, if there is one.
+    // `new` and no `TryFrom`, here and for every type with bounds: there is one way to be out of them, and an error would say no more.
     pub fn new(count: u32) -> Option<Beds>
         ensures { MatchOption result (1 ≤ count → count ≤ max_beds → ⊥) (λ b. b.count ≡ count) }
     {

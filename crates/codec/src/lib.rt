@@ -3,6 +3,7 @@
 
 pub mod batch;
 pub mod beds;
+pub mod fixed_vec;
 pub mod laws;
 pub mod limits;
 pub mod number;
@@ -15,3 +16,4 @@ pub mod ticket_list;
 pub mod tickets;
 pub mod value;
 pub mod whole;
+mod write;

@@ -14,6 +14,8 @@ pub const MIN_NUMBER: u32 = 1;
 pub const MAX_NUMBER: u32 = 65_535;
 /// The highest sheet of a ticket.
 pub const MAX_SHEET: u32 = 63;
+/// The most bytes of a ticket: three each for its paths and its number, one each for its origin and its sheet.
+pub const MAX_TICKET_BYTES: usize = 8;
 /// The most tickets of a batch, and of a packet.
 pub const BATCH_TICKETS: usize = 8;
 

@@ -1,6 +1,9 @@
 // What is said of faulty bytes: the cause, the place and the layer.
-ghost use Rattle.std.specs.Prelude.{◌≡◌};
+ghost use Rattle.std.specs.Prelude.{◌≡◌, Some};
 ghost use Rattle.codec.specs.Report.{cause_number};
+ghost use Rattle.codec.specs.Words.{layer_name};
+
+use std::fmt;
 
 /// What is wrong. The numbers are those of the documents.
 #[derive(Clone, Copy)]
@@ -22,6 +25,7 @@ pub enum Cause {
 }
 
 impl Cause {
+    // A method and no `From`, here and for every refusal: `cause.number()` says what the number is.
     pub fn number(self) -> u8
         ensures { result ≡ cause_number self }
     {
@@ -36,6 +40,19 @@ pub enum Layer {
     Ticket,
     List,
     Whole,
+}
+
+impl fmt::Display for Layer {
+    ghost output = { λ l. Some (layer_name l) };
+
+    fn fmt<W: fmt::Write>(&self, f: &mut fmt::Formatter<W>) -> fmt::Result {
+        f.write_str(match self {
+            Layer::Number => "number",
+            Layer::Ticket => "ticket",
+            Layer::List => "list",
+            Layer::Whole => "whole",
+        })
+    }
 }
 
 /// A fault as it is told: the place is an offset into the bytes.

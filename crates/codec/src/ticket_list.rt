@@ -1,16 +1,18 @@
 // Lists of tickets: in ticket order, no identity twice. Their form is a count and that many tickets.
-ghost use Rattle.std.specs.Prelude.{◌≡◌, ℕ, ◌+◌, ◌*◌, ◌<◌, ◌≤◌, length, IfOk, Decides};
+ghost use Rattle.std.specs.Prelude.{◌≡◌, ℕ, ◌+◌, ◌<◌, ◌≤◌, ◌++◌, length, IfOk, Decides, Some};
 ghost use Rattle.codec.specs.Limits.{max_beds, packet_tickets};
 ghost use Rattle.codec.specs.Ticket.{InRange};
-ghost use Rattle.codec.specs.TicketList.{known as known_in, follows, count_at, next_at, Each, Sound, tickets_bytes, list_bytes};
-ghost use Rattle.codec.specs.Write.{put_at};
+ghost use Rattle.codec.specs.TicketList.{known as known_in, follows, count_at, next_at, Each, Sound, list_bytes};
 ghost use Rattle.codec.specs.Report.{list_report};
+ghost use Rattle.codec.specs.Words.{list_words};
 ghost use Rattle.codec.specs.declared.ticket_list.ListFault.TheVariants.{Number as ListNumber, Ticket as ListTicket};
 
 use super::beds::Beds;
-use super::number::{NumberFault, number_len, put_number, read_number};
+use super::fixed_vec::FixedVec;
+use super::number::{NumberFault, read_number};
 use super::report::{Cause, Layer, Report};
-use super::ticket::{Ticket, TicketFault, put_ticket, read_ticket, ticket_len};
+use super::ticket::{Ticket, TicketFault, read_ticket};
+use std::fmt;
 
 /// A fault in a list of tickets.
 #[derive(Clone, Copy)]
@@ -69,43 +71,57 @@ impl ListFault {
     }
 }
 
+impl fmt::Display for ListFault {
+    ghost output = { λ f. Some (list_words f) };
+
+    fn fmt<W: fmt::Write>(&self, f: &mut fmt::Formatter<W>) -> fmt::Result {
+        match self {
+            ListFault::Number(fault) => fault.fmt(f),
+            ListFault::Ticket(fault) => fault.fmt(f),
+            ListFault::Count(_) => f.write_str("the count is above the most tickets that may come"),
+            ListFault::Order(_) => f.write_str(
+                "this ticket does not stand after the one before it",
+            ),
+            ListFault::Repeated(_) => f.write_str(
+                "an earlier ticket has the origin and number of this one",
+            ),
+        }
+    }
+}
+
 /// Whether the identity of `ticket` is among the tickets.
 pub fn known(tickets: &[Ticket], ticket: &Ticket) -> bool
     ensures { result ≡ known_in ticket.now tickets.now }
 {
-    for other in tickets {
-        if other.same_identity(ticket) {
-            return true;
-        }
-    }
-    false
+    tickets.iter().any(|other| other.same_identity(ticket))
 }
 
 /// Whether `ticket` stands after the last of the tickets.
+#[tactic(auto, using(crate::proofs::TicketLists::follows_last))]
 pub fn follows_last(tickets: &[Ticket], ticket: &Ticket) -> bool
     ensures { result ≡ follows ticket.now tickets.now }
 {
-    let count = tickets.len();
-    if count == 0 {
-        return true;
+    match tickets {
+        [] => true,
+        [.., last] => last.stands_before(ticket),
     }
-    tickets[count - 1].stands_before(ticket)
 }
 
-// The count at `at`, at most `most`.
-pub(crate) fn read_count(bytes: &[u8], at: usize, most: usize) -> Result<(usize, usize), ListFault>
+// The count at `at`, at most `most`. By a comparison of its own, since the range of `read_ranged` is of `u32` and `most` is any `usize`.
+#[tactic(auto, unfolding(crate::specs::Ranged::ranged_at))]
+pub(crate) fn read_count(bytes: &[u8], at: usize, most: usize) -> Result<(u32, usize), ListFault>
     ensures value { result ≡ count_at bytes.now at most }
     ensures within { IfOk result (λ p. (p.0 ≤ most) × (p.1 ≤ length bytes.now)) }
 {
-    let (value, next) = read_number(bytes, at)?;
-    let count = value as usize;
-    if count > most {
+    let (count, next) = read_number(bytes, at)?;
+    if count as usize > most {
         return Err(ListFault::Count(at));
     }
     Ok((count, next))
 }
 
 // The ticket at `at`, which comes after those seen.
+#[tactic(auto, unfolding(crate::specs::TicketList::next_at))]
 pub(crate) fn read_next(
     bytes: &[u8],
     at: usize,
@@ -126,6 +142,7 @@ pub(crate) fn read_next(
 }
 
 /// Whether the tickets may stand in one batch or packet, for a group of so many beds and with at most `most` tickets.
+#[tactic(auto, using(crate::proofs::TicketLists::after_at, crate::proofs::TicketLists::sound_after))]
 pub fn is_sound(tickets: &[Ticket], beds: Beds, most: usize) -> bool
     ensures { Decides result (Sound beds.count most tickets.now) }
 {
@@ -141,52 +158,18 @@ pub fn is_sound(tickets: &[Ticket], beds: Beds, most: usize) -> bool
     true
 }
 
-// How many bytes the forms of the tickets have.
-fn tickets_len(tickets: &[Ticket]) -> usize
-    requires ranged { Each (InRange max_beds) tickets.now }
-    requires few { length tickets.now ≤ packet_tickets }
-    ensures value { result ≡ length (tickets_bytes tickets.now) }
-    ensures short { result ≤ 8 * length tickets.now }
-{
-    let mut len = 0;
-    for ticket in tickets {
-        len += ticket_len(ticket);
+impl<const CAP: usize> FixedVec<u8, CAP> {
+    // The form of a list, at the end: its count and its tickets.
+    #[tactic(auto, unfolding(crate::specs::TicketList::list_bytes), using(crate::proofs::ListWrites::list_length))]
+    pub(crate) fn push_list(&mut self, tickets: &[Ticket])
+        requires ranged { Each (InRange max_beds) tickets.now }
+        requires few { length tickets.now ≤ packet_tickets }
+        requires room { length self.old.items + length (list_bytes tickets.now) ≤ CAP }
+        ensures { self.new.items ≡ self.old.items ++ list_bytes tickets.now }
+    {
+        self.push_number(tickets.len() as u32);
+        for ticket in tickets {
+            self.push_ticket(ticket);
+        }
     }
-    len
-}
-
-// Writes the forms of the tickets from `at` on, and answers the offset after them.
-fn put_tickets(out: &mut [u8], at: usize, tickets: &[Ticket]) -> usize
-    requires ranged { Each (InRange max_beds) tickets.now }
-    requires room { at + length (tickets_bytes tickets.now) ≤ length out.old }
-    ensures next { result ≡ at + length (tickets_bytes tickets.now) }
-    ensures after { out.new ≡ put_at out.old at (tickets_bytes tickets.now) }
-{
-    let mut next = at;
-    for ticket in tickets {
-        next = put_ticket(out, next, ticket);
-    }
-    next
-}
-
-// How many bytes a list has: its count and its tickets.
-pub(crate) fn list_len(tickets: &[Ticket]) -> usize
-    requires ranged { Each (InRange max_beds) tickets.now }
-    requires few { length tickets.now ≤ packet_tickets }
-    ensures value { result ≡ length (list_bytes tickets.now) }
-    ensures short { result ≤ 1 + 8 * length tickets.now }
-{
-    number_len(tickets.len() as u32) + tickets_len(tickets)
-}
-
-// Writes a list at `at`, and answers the offset after it.
-pub(crate) fn put_list(out: &mut [u8], at: usize, tickets: &[Ticket]) -> usize
-    requires ranged { Each (InRange max_beds) tickets.now }
-    requires few { length tickets.now ≤ packet_tickets }
-    requires room { at + length (list_bytes tickets.now) ≤ length out.old }
-    ensures next { result ≡ at + length (list_bytes tickets.now) }
-    ensures after { out.new ≡ put_at out.old at (list_bytes tickets.now) }
-{
-    let next = put_number(out, at, tickets.len() as u32);
-    put_tickets(out, next, tickets)
 }

@@ -1,11 +1,13 @@
 // Faults of a whole batch or packet, and where the bytes came from.
-ghost use Rattle.std.specs.Prelude.{◌≡◌};
+ghost use Rattle.std.specs.Prelude.{◌≡◌, Some};
 ghost use Rattle.codec.specs.Report.{whole_report};
+ghost use Rattle.codec.specs.Words.{fault_words};
 ghost use Rattle.codec.specs.declared.whole.WholeFault.TheVariants.{Number as WholeNumber, List as WholeList};
 
 use super::number::NumberFault;
 use super::report::{Cause, Layer, Report};
 use super::ticket_list::ListFault;
+use std::fmt;
 
 /// A fault in a batch or a packet, the whole of it.
 #[derive(Clone, Copy)]
@@ -75,6 +77,21 @@ impl WholeFault {
         ensures { result ≡ record { fault = self; site = site } }
     {
         SitedFault { fault: self, site }
+    }
+}
+
+impl fmt::Display for WholeFault {
+    ghost output = { λ f. Some (fault_words f) };
+
+    fn fmt<W: fmt::Write>(&self, f: &mut fmt::Formatter<W>) -> fmt::Result {
+        match self {
+            WholeFault::Number(fault) => fault.fmt(f),
+            WholeFault::List(fault) => fault.fmt(f),
+            WholeFault::Short => f.write_str("the bytes end before the mark of a packet does"),
+            WholeFault::Mark => f.write_str("the first four bytes are not the mark of a packet"),
+            WholeFault::Head(_) => f.write_str("there is no such bed or round"),
+            WholeFault::Spare(_) => f.write_str("bytes are left over after the last ticket"),
+        }
     }
 }
 
