@@ -1,12 +1,21 @@
 -- What a keep and a torn keep do at their slot.
-use Rattle.std.proofs.Common.{◌≡◌, ℕ, ◌+◌, ◌<◌, ◌≤◌, true, false, leb, ◌⊎◌, List, length, get_or, set, Some, None, Option, Result, sym, refl, ap, ◌∙◌, subst, inl, inr, ⊎_elim, arith, length-set}
+use Rattle.std.proofs.Common.{◌≡◌, ℕ, ◌+◌, ◌<◌, ◌≤◌, true, false, leb, ◌⊎◌, List, length, get_or, set, Some, None, Option, Result, sym, refl, ◌∙◌, subst, inl, inr, ⊎_elim, arith, length-set}
+use Rattle.std.proofs.lemmas.Grind.{common_steps}
+use Rattle.std.proofs.lemmas.Bool.Decides.{nat_tests}
 use Rattle.std.proofs.lemmas.Bool.{cases_eq, cases_lt, cases_Bool, cond-true, cond-false, eq-eqb, le-leb, lt-leb}
 use Rattle.codec.specs.Limits.{max_batch_bytes}
+use Rattle.codec.proofs.Values.{value_some, value_most}
+use Rattle.memory.specs.Keep.{keep_bytes}
+use Rattle.memory.specs.declared.keep.Keep.{Keep}
 use Rattle.memory.specs.Chip.{slot_cells, mark_place, chip_cells, start, keep_place, written, full, slot_holds, chip_holds, keep_cells, torn_cells}
 use Rattle.memory.specs.Meaning.{Within, KeepAnswer, Keeps, Tears}
 use Rattle.memory.specs.declared.refusal.MemoryRefusal.{MemoryRefusal}
 use Rattle.memory.proofs.ChipSlots.{Beside, slot_none, slot_is, placed_holds, chip_elsewhere}
-use Rattle.memory.proofs.ChipWrites.{hit, missed, Written, written_is, length-written, place_front, place_last}
+use Rattle.memory.proofs.ChipWrites.{hit, missed, Written, written_is, length-written}
+
+-- a keep is within the limits
+pub within_keep : (k : Keep) → Within k.place.bed k.place.slot (length (keep_bytes k))
+within_keep k = record { place = k.place.in_place; some = value_some k.value; most = value_most k.value }
 
 -- what a torn keep leaves in its slot
 pub record SlotTorn (before after : List ℕ) (p : ℕ) (bytes : List ℕ) («at» : ℕ) : Type 0 where
@@ -16,12 +25,9 @@ pub record SlotTorn (before after : List ℕ) (p : ℕ) (bytes : List ℕ) («at
   pub stays : (old : List ℕ) → slot_holds before p ≡ Some old → slot_holds after p ≡ Some old
   pub beside : Beside before after p
 
-never : {X : Type 0} (o : Option (List ℕ)) (l : List ℕ) → o ≡ Some l → o ≡ None → X
-never o l p q = absurd (let z : ◌≡◌ {A = ℕ} 0 1 = cc in omega arith)
-
 -- an empty slot has no mark
 unmarked : (cells : List ℕ) (p : ℕ) → slot_holds cells p ≡ None → get_or cells (p + mark_place) 0 ≡ 165 → ⊥
-unmarked cells p e m = let s = cond-true (full cells p) _ _ (eq-eqb _ _ m) in never _ _ s e
+unmarked cells p e m = grind (arith, common_steps, eq-eqb)
 
 -- all cells of a keep are written
 pub written_holds : (cells : List ℕ) (p : ℕ) (bytes : List ℕ) → p + slot_cells ≤ length cells → 1 ≤ length bytes → length bytes ≤ max_batch_bytes
@@ -43,7 +49,7 @@ torn_part before p bytes «at» junk room_before some most short empty =
     let mid : List ℕ = written before p bytes «at» in
     let q : ℕ = keep_place (length bytes) «at» in
     part mid q (written_is before p bytes «at» room_before some most (omega arith)) (omega (arith, length-written before p bytes «at»))
-    (place_front (length bytes) «at») (place_last (length bytes) «at»)
+    (λ z. grind (arith, nat_tests)) (λ z. grind (arith, nat_tests))
   where
     part : (mid : List ℕ) (q : ℕ) → Written before mid p bytes «at» → p + slot_cells ≤ length mid → («at» ≤ length bytes → q ≡ «at») → (length bytes < «at» → q ≡ mark_place)
         → SlotTorn before (set mid (p + q) junk) p bytes «at»
@@ -62,51 +68,28 @@ torn_part before p bytes «at» junk room_before some most short empty =
               (cases_lt «at» (length bytes + 1));
           nothing = λ e z. no_mark (omega arith);
           whole = λ e z. absurd (omega arith);
-          stays = λ old e. never _ _ e empty;
+          stays = λ old e. grind (arith, common_steps);
           beside = record { below = λ k h. grind (arith, missed); above = λ k h. grind (arith, missed) };
         }
-
--- a full slot shows something, and an empty one nothing
-full_shows : (cells : List ℕ) (p : ℕ) → full cells p ≡ true → slot_holds cells p ≡ None → ⊥
-full_shows cells p f e = never _ _ (cond-true (full cells p) _ _ f) e
-
-empty_shows : (cells : List ℕ) (p : ℕ) (old : List ℕ) → full cells p ≡ false → slot_holds cells p ≡ Some old → ⊥
-empty_shows cells p old f e = never _ old e (cond-false (full cells p) _ _ f)
-
-pub keep_full : (cells : List ℕ) (p : ℕ) (bytes : List ℕ) → full cells p ≡ true → keep_cells cells p bytes ≡ cells
-unfolding keep_cells
-keep_full cells p bytes f = cond-true (full cells p) _ _ f
-
-pub keep_empty : (cells : List ℕ) (p : ℕ) (bytes : List ℕ) → full cells p ≡ false → keep_cells cells p bytes ≡ written cells p bytes (length bytes + 2)
-unfolding keep_cells
-keep_empty cells p bytes f = cond-false (full cells p) _ _ f
 
 unchanged : (cells : List ℕ) (p : ℕ) → Beside cells cells p
 unchanged cells p = record { below = λ k h. refl; above = λ k h. refl }
 
 keep_beside : (cells : List ℕ) (p : ℕ) (bytes : List ℕ) → p + slot_cells ≤ length cells → 1 ≤ length bytes → length bytes ≤ max_batch_bytes → Beside cells (keep_cells cells p bytes) p
-keep_beside cells p bytes room some most = elim (cases_Bool (full cells p)) [
-  | inl f ↦ subst (λ (l : List ℕ). Beside cells l p) (sym (keep_full cells p bytes f)) (unchanged cells p)
-  | inr f ↦ subst (λ (l : List ℕ). Beside cells l p) (sym (keep_empty cells p bytes f)) (written_beside cells p bytes room some most)
-]
+unfolding keep_cells
+keep_beside cells p bytes room some most = grind (arith, written_beside, unchanged)
 
 keep_takes : (cells : List ℕ) (p : ℕ) (bytes : List ℕ) → p + slot_cells ≤ length cells → 1 ≤ length bytes → length bytes ≤ max_batch_bytes → slot_holds cells p ≡ None → slot_holds (keep_cells cells p bytes) p ≡ Some bytes
-keep_takes cells p bytes room some most e = elim (cases_Bool (full cells p)) [
-  | inl f ↦ absurd (full_shows cells p f e)
-  | inr f ↦ ap (λ (l : List ℕ). slot_holds l p) (keep_empty cells p bytes f) ∙ written_holds cells p bytes room some most
-]
+unfolding keep_cells
+keep_takes cells p bytes room some most e = grind (arith, common_steps, written_holds)
 
 keep_stays : (cells : List ℕ) (p : ℕ) (bytes old : List ℕ) → slot_holds cells p ≡ Some old → slot_holds (keep_cells cells p bytes) p ≡ Some old
-keep_stays cells p bytes old e = elim (cases_Bool (full cells p)) [
-  | inl f ↦ ap (λ (l : List ℕ). slot_holds l p) (keep_full cells p bytes f) ∙ e
-  | inr f ↦ absurd (empty_shows cells p old f e)
-]
+unfolding keep_cells
+keep_stays cells p bytes old e = grind (arith, common_steps)
 
 keep_length : (cells : List ℕ) (p : ℕ) (bytes : List ℕ) → length (keep_cells cells p bytes) ≡ length cells
-keep_length cells p bytes = elim (cases_Bool (full cells p)) [
-  | inl f ↦ ap length (keep_full cells p bytes f)
-  | inr f ↦ ap length (keep_empty cells p bytes f) ∙ length-written cells p bytes (length bytes + 2)
-]
+unfolding keep_cells
+keep_length cells p bytes = grind (arith, common_steps, length-written)
 
 -- a keep on a chip is a keep
 pub chip_keeps : (cells : List ℕ) (bed slot : ℕ) (bytes : List ℕ) (r : Result (Unit {0}) MemoryRefusal) → chip_cells ≤ length cells → Within bed slot (length bytes)
@@ -143,21 +126,16 @@ unfolding torn_cells
 torn_broken cells p bytes «at» junk f h = cond-false (full cells p) _ _ f ∙ cond-false (leb (length bytes + 2) «at») _ _ (lt-leb (length bytes + 2) «at» h)
 
 torn-length : (cells : List ℕ) (p : ℕ) (bytes : List ℕ) («at» junk : ℕ) → length (torn_cells cells p bytes «at» junk) ≡ length cells
-torn-length cells p bytes «at» junk = elim (cases_Bool (full cells p)) [
-  | inl f ↦ ap length (torn_full cells p bytes «at» junk f)
-  | inr f ↦ elim (cases_lt «at» (length bytes + 2)) [
-    | inl h ↦ ap length (torn_broken cells p bytes «at» junk f h) ∙ length-set (written cells p bytes «at») (p + keep_place (length bytes) «at») junk ∙ length-written cells p bytes «at»
-    | inr h ↦ ap length (torn_whole cells p bytes «at» junk f h) ∙ length-written cells p bytes (length bytes + 2)
-  ]
-]
+unfolding torn_cells
+torn-length cells p bytes «at» junk = grind (arith, common_steps, length-set, length-written)
 
 slot_torn : (cells : List ℕ) (p : ℕ) (bytes : List ℕ) («at» junk : ℕ) → p + slot_cells ≤ length cells → 1 ≤ length bytes → length bytes ≤ max_batch_bytes
     → SlotTorn cells (torn_cells cells p bytes «at» junk) p bytes «at»
 slot_torn cells p bytes «at» junk room some most = elim (cases_Bool (full cells p)) [
   | inl f ↦ subst (λ (l : List ℕ). SlotTorn cells l p bytes «at») (sym (torn_full cells p bytes «at» junk f)) (record {
-    either = λ e. absurd (full_shows cells p f e);
+    either = λ e. grind (arith, common_steps);
     nothing = λ e z. e;
-    whole = λ e z. absurd (full_shows cells p f e);
+    whole = λ e z. grind (arith, common_steps);
     stays = λ old e. e;
     beside = unchanged cells p;
   })
@@ -167,7 +145,7 @@ slot_torn cells p bytes «at» junk room some most = elim (cases_Bool (full cell
       either = λ e. inr (written_holds cells p bytes room some most);
       nothing = λ e z. absurd (omega arith);
       whole = λ e z. written_holds cells p bytes room some most;
-      stays = λ old e. absurd (empty_shows cells p old f e);
+      stays = λ old e. grind (arith, common_steps);
       beside = written_beside cells p bytes room some most;
     })
   ]
@@ -193,27 +171,3 @@ chip_tears cells bed slot bytes «at» junk big w =
       stays = λ old e. h' ∙ t.stays old (sym h ∙ e);
       elsewhere = chip_elsewhere cells (torn_cells cells p bytes «at» junk) bed slot big (omega arith) slot_in t.beside;
     }
-
--- ---- by what the slot shows, as the code tells them apart
-
-is_full : (cells : List ℕ) (p : ℕ) (old : List ℕ) → slot_holds cells p ≡ Some old → full cells p ≡ true
-is_full cells p old e = elim (cases_Bool (full cells p)) [ inl f ↦ f | inr f ↦ absurd (empty_shows cells p old f e) ]
-
-is_empty : (cells : List ℕ) (p : ℕ) → slot_holds cells p ≡ None → full cells p ≡ false
-is_empty cells p e = elim (cases_Bool (full cells p)) [ inl f ↦ absurd (full_shows cells p f e) | inr f ↦ f ]
-
-pub keep_some : (cells : List ℕ) (p : ℕ) (bytes old : List ℕ) → slot_holds cells p ≡ Some old → cells ≡ keep_cells cells p bytes
-keep_some cells p bytes old e = sym (keep_full cells p bytes (is_full cells p old e))
-
-pub keep_none : (cells : List ℕ) (p : ℕ) (bytes : List ℕ) → slot_holds cells p ≡ None → written cells p bytes (length bytes + 2) ≡ keep_cells cells p bytes
-keep_none cells p bytes e = sym (keep_empty cells p bytes (is_empty cells p e))
-
-pub torn_some : (cells : List ℕ) (p : ℕ) (bytes : List ℕ) («at» junk : ℕ) (old : List ℕ) → slot_holds cells p ≡ Some old → cells ≡ torn_cells cells p bytes «at» junk
-torn_some cells p bytes «at» junk old e = sym (torn_full cells p bytes «at» junk (is_full cells p old e))
-
-pub torn_late : (cells : List ℕ) (p : ℕ) (bytes : List ℕ) («at» junk : ℕ) → slot_holds cells p ≡ None → length bytes + 2 ≤ «at» → written cells p bytes (length bytes + 2) ≡ torn_cells cells p bytes «at» junk
-torn_late cells p bytes «at» junk e h = sym (torn_whole cells p bytes «at» junk (is_empty cells p e) h)
-
-pub torn_early : (cells : List ℕ) (p : ℕ) (bytes : List ℕ) («at» junk : ℕ) → slot_holds cells p ≡ None → «at» < length bytes + 2
-    → set (written cells p bytes «at») (p + keep_place (length bytes) «at») junk ≡ torn_cells cells p bytes «at» junk
-torn_early cells p bytes «at» junk e h = sym (torn_broken cells p bytes «at» junk (is_empty cells p e) h)

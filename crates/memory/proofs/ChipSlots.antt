@@ -1,11 +1,13 @@
 -- What the cells of a slot say of what it holds.
-use Rattle.std.proofs.Common.{◌≡◌, ℕ, ◌+◌, ◌<◌, ◌≤◌, Bool, true, false, cond, ltb, ◌⊎◌, List, length, get_or, take, drop, Some, None, Option, refl, ap, ◌∙◌, inl, inr, ⊎_elim, arith, length-drop, length-take, ext_get_or}
+use Rattle.std.proofs.Common.{◌≡◌, ℕ, ◌+◌, ◌<◌, ◌≤◌, Bool, true, false, cond, ltb, ◌⊎◌, List, length, get_or, take, drop, Some, None, Option, refl, inl, inr, ⊎_elim, arith, length-drop, length-take, ext_get_or}
+use Rattle.std.proofs.lemmas.Grind.{common_steps}
+use Rattle.std.proofs.lemmas.Bool.Decides.{nat_tests}
 use Rattle.std.proofs.lemmas.List.{get_or-take, get_or-drop}
-use Rattle.std.proofs.lemmas.Bool.{cases_order, eq-eqb, ne_eqb, cond-true, cond-false, and_from, and_parts, lt-ltb, ltb-true}
+use Rattle.std.proofs.lemmas.Bool.{cases_order, and_parts, ltb-true}
 use Rattle.memory.specs.Meaning.{Elsewhere}
 use Rattle.codec.specs.Limits.{max_beds, max_batch_bytes}
 use Rattle.memory.specs.Limits.{slot_count, slot_index, placed}
-use Rattle.memory.specs.Chip.{slot_cells, mark_place, chip_cells, start, counted, full, slot_holds, chip_holds}
+use Rattle.memory.specs.Chip.{slot_cells, mark_place, chip_cells, start, counted, slot_holds, chip_holds}
 
 -- no cell outside the slot whose first cell is p is changed
 pub record Beside (before after : List ℕ) (p : ℕ) : Type 0 where
@@ -13,7 +15,7 @@ pub record Beside (before after : List ℕ) (p : ℕ) : Type 0 where
   pub above : (k : ℕ) → p + slot_cells ≤ k → get_or after k 0 ≡ get_or before k 0
 
 pub slot_none : (cells : List ℕ) (p : ℕ) → (get_or cells (p + mark_place) 0 ≡ 165 → ⊥) → slot_holds cells p ≡ None
-slot_none cells p h = cond-false (full cells p) _ _ (ne_eqb _ _ h)
+slot_none cells p h = grind (arith, common_steps, nat_tests, h)
 
 -- a stretch of two lists that agree there
 pub same_part : (a b : List ℕ) (p n : ℕ) → p + n ≤ length a → p + n ≤ length b
@@ -37,7 +39,7 @@ pub slot_is : (cells bytes : List ℕ) (p : ℕ) → p + slot_cells ≤ length c
 slot_is cells bytes p room some most len mark data_is =
     let n_is : counted (get_or cells p 0) ≡ length bytes = omega arith in
     let part : take (length bytes) (drop (p + 1) cells) ≡ bytes = part_is cells bytes (p + 1) (omega arith) data_is in
-    cond-true (full cells p) _ _ (eq-eqb _ _ mark) ∙ ap (λ (n : ℕ). Some (take n (drop (p + 1) cells))) n_is ∙ ap (λ (l : List ℕ). Some l) part
+    grind (arith, common_steps, nat_tests)
 
 pub slot_same : (a b : List ℕ) (p : ℕ) → p + slot_cells ≤ length a → p + slot_cells ≤ length b
     → ((k : ℕ) → p ≤ k → k < p + slot_cells → get_or a k 0 ≡ get_or b k 0) → slot_holds a p ≡ slot_holds b p
@@ -59,7 +61,7 @@ apart b s bed slot s_in slot_in ne =
 -- what a placed slot shows
 pub placed_holds : (cells : List ℕ) (bed slot : ℕ) → bed < max_beds → slot < slot_count → chip_holds cells bed slot ≡ slot_holds cells (start bed slot)
 placed_holds cells bed slot b_in s_in =
-    cond-true (placed bed slot) _ _ (and_from (ltb bed max_beds) (ltb slot slot_count) (lt-ltb bed max_beds b_in) (lt-ltb slot slot_count s_in))
+    grind (arith, common_steps, nat_tests)
 
 -- every slot that lies beside is as it was
 same_where : (t : Bool) (x y : Option (List ℕ)) → (t ≡ true → x ≡ y) → cond t x None ≡ cond t y None

@@ -1,12 +1,13 @@
 -- What stands in each cell after the first `count` of a keep are written.
-use Rattle.std.proofs.Common.{◌≡◌, ℕ, zero, suc, ◌+◌, ◌-◌, ◌<◌, ◌≤◌, eqb, leb, List, length, get_or, set, sym, refl, ap, ◌∙◌, subst, add-one, arith, length-set, get_or-set_other, get_or-set_same}
-use Rattle.std.proofs.lemmas.Bool.{cond-true, cond-false, le-leb, lt-leb, eq-eqb, ne_eqb}
+use Rattle.std.proofs.Common.{◌≡◌, ℕ, zero, suc, ◌+◌, ◌-◌, ◌<◌, ◌≤◌, List, length, get_or, set, refl, ◌∙◌, add-one, arith, length-set, get_or-set_other}
+use Rattle.std.proofs.lemmas.Grind.{common_steps}
+use Rattle.std.proofs.lemmas.Bool.Decides.{nat_tests}
 use Rattle.codec.specs.Limits.{max_batch_bytes}
 use Rattle.memory.specs.Chip.{slot_cells, mark_place, keep_place, keep_cell, written}
 
 -- what stands at k after a write at i
 pub hit : (l : List ℕ) (i k v : ℕ) → i < length l → k ≡ i → get_or (set l i v) k 0 ≡ v
-hit l i k v h e = subst (λ (j : ℕ). get_or (set l i v) j 0 ≡ v) (sym e) (get_or-set_same l i v 0 h)
+hit l i k v h e = grind (arith, common_steps, nat_tests)
 
 pub missed : (l : List ℕ) (i k v : ℕ) → (k ≡ i → ⊥) → get_or (set l i v) k 0 ≡ get_or l k 0
 missed l i k v h = get_or-set_other l i k v 0 h
@@ -19,23 +20,6 @@ written_step cells p bytes i = rw add-one
 pub length-written : (cells : List ℕ) (p : ℕ) (bytes : List ℕ) (count : ℕ) → length (written cells p bytes count) ≡ length cells
 length-written cells p bytes zero = refl
 length-written cells p bytes (suc k) = length-set (written cells p bytes k) (p + keep_place (length bytes) k) (keep_cell bytes k) ∙ length-written cells p bytes k
-
-pub place_front : (n i : ℕ) → i ≤ n → keep_place n i ≡ i
-place_front n i h = cond-true (leb i n) i mark_place (le-leb i n h)
-
-pub place_last : (n i : ℕ) → n < i → keep_place n i ≡ mark_place
-place_last n i h = cond-false (leb i n) i mark_place (lt-leb i n h)
-
-value_first : (bytes : List ℕ) (i : ℕ) → i ≡ 0 → keep_cell bytes i ≡ length bytes
-value_first bytes i h = cond-true (eqb i 0) _ _ (eq-eqb i 0 h)
-
-value_middle : (bytes : List ℕ) (i k : ℕ) → i ≡ k + 1 → k < length bytes → keep_cell bytes i ≡ get_or bytes k 0
-value_middle bytes i k e h =
-    cond-false (eqb i 0) _ _ (ne_eqb i 0 (λ z. omega arith)) ∙ cond-true (leb i (length bytes)) _ _ (le-leb i (length bytes) (omega arith))
-    ∙ ap (λ (j : ℕ). get_or bytes j 0) (let s : i - 1 ≡ k = omega arith in s)
-
-value_last : (bytes : List ℕ) (i : ℕ) → length bytes < i → keep_cell bytes i ≡ 165
-value_last bytes i h = cond-false (eqb i 0) _ _ (ne_eqb i 0 (λ z. omega arith)) ∙ cond-false (leb i (length bytes)) _ _ (lt-leb i (length bytes) h)
 
 pub record Written (before after : List ℕ) (p : ℕ) (bytes : List ℕ) (count : ℕ) : Type 0 where
   pub length_cell : 0 < count → get_or after p 0 ≡ length bytes
@@ -73,6 +57,6 @@ written_is cells p bytes zero room some most h = record {
 written_is cells p bytes (suc i) room some most h =
     let long : p + slot_cells ≤ length (written cells p bytes i) = omega (arith, length-written cells p bytes i) in
     more cells (written cells p bytes i) bytes p i (keep_place (length bytes) i) (keep_cell bytes i) long some most (omega arith)
-    (place_front (length bytes) i) (place_last (length bytes) i)
-    (value_first bytes i) (λ k e z. value_middle bytes i k e z) (value_last bytes i)
+    (λ z. grind (arith, nat_tests)) (λ z. grind (arith, nat_tests))
+    (λ z. grind (arith, nat_tests)) (λ k e z. let s : i - 1 ≡ k = omega arith in grind (arith, nat_tests)) (λ z. grind (arith, nat_tests))
     (written_is cells p bytes i room some most (omega arith))

@@ -4,3 +4,4 @@ pub mod Meaning
 pub mod Table
 pub mod Chip
 pub mod ChipBounds
+pub mod Keep

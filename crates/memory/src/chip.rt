@@ -8,18 +8,20 @@
 //
 // The slot of bed b and slot s begins at cell 67 × (32 × b + s). A keep writes the length, the bytes and last the mark, so
 // a slot whose keep was broken off is empty.
-ghost use Rattle.std.specs.Prelude.{◌≡◌, ℕ, ◌+◌, ◌*◌, ◌<◌, ◌≤◌, List, length, if◌then◌else◌, None, Ok, Err, nat_lt};
-ghost use Rattle.codec.specs.Limits.{max_batch_bytes};
+ghost use Rattle.std.specs.Prelude.{◌≡◌, ℕ, ◌+◌, ◌*◌, ◌<◌, ◌≤◌, List, length, if◌then◌else◌, None, Ok, Err, nat_lt, slice_set};
+ghost use Rattle.codec.specs.Value.{value_bytes};
 ghost use Rattle.memory.specs.Meaning.{InPlace, Within, behind, KeepAnswer, Keeps, Tears};
 ghost use Rattle.memory.specs.Chip.{chip_cells, slot_cells, chip_named, start, slot_holds, chip_holds, keep_place, keep_cell, written, keep_cells, torn_cells, Blank};
 ghost use Rattle.memory.specs.ChipBounds.{chip_bounded};
+ghost use Rattle.memory.specs.Keep.{place_start, keep_start, keep_bytes};
 ghost use Rattle.memory.specs.declared.refusal.MemoryRefusal.TheVariants.{Cells};
 
-use super::bytes::same;
-use super::limits::{in_place, slot_index, within};
-use super::memory::Memory;
+use super::keep::Keep;
+use super::memory::{Memory, keep_again};
+use super::place::Place;
 use super::refusal::MemoryRefusal;
 use codec::limits::MAX_BATCH_BYTES;
+use codec::value::Value;
 
 /// The cells of a chip.
 pub const CELLS: usize = 17_152;
@@ -62,38 +64,23 @@ impl<'a> Chip<'a> {
     }
 }
 
-fn slot_start(bed: u32, slot: u32) -> usize
-    requires { InPlace bed slot }
-    ensures value { result ≡ start bed slot }
+// The first cell of a slot.
+fn slot_start(place: Place) -> usize
+    ensures value { result ≡ place_start place }
     ensures within { result + slot_cells ≤ chip_cells }
 {
-    SLOT_CELLS * slot_index(bed, slot)
-}
-
-// What the slot whose first cell is `p` holds.
-fn held(cells: &[u8], p: usize) -> Option<&[u8]>
-    requires { p + slot_cells ≤ length cells.now }
-    ensures { behind result ≡ slot_holds cells.now p }
-{
-    if cells[p + MARK_PLACE] != MARK {
-        return None;
-    }
-    let len = usize::from(cells[p]).clamp(1, MAX_BATCH_BYTES);
-    Some(&cells[p + 1..p + 1 + len])
+    SLOT_CELLS * place.index()
 }
 
 // What cell `i` of a keep is to hold.
-fn keep_cell(bytes: &[u8], i: usize) -> u8
-    requires most { length bytes.now ≤ max_batch_bytes }
-    requires within { i ≤ length bytes.now + 1 }
-    ensures { result ≡ keep_cell bytes.now i }
+fn keep_cell(value: &Value, i: usize) -> u8
+    ensures { result ≡ keep_cell (value_bytes value.now) i }
 {
+    let bytes = value.as_slice();
     if i == 0 {
         bytes.len() as u8
-    } else if i <= bytes.len() {
-        bytes[i - 1]
     } else {
-        MARK
+        bytes.get(i - 1).copied().unwrap_or(MARK)
     }
 }
 
@@ -104,55 +91,72 @@ fn keep_place(len: usize, i: usize) -> usize
     if i <= len { i } else { MARK_PLACE }
 }
 
-// Writes the first `count` cells of a keep, in their order.
-fn write_cells(cells: &mut [u8], p: usize, bytes: &[u8], count: usize)
-    requires room { p + slot_cells ≤ length cells.old }
-    requires most { length bytes.now ≤ max_batch_bytes }
-    requires count { count ≤ length bytes.now + chip_named }
-    ensures { cells.new ≡ written cells.old p bytes.now count }
+// How many cells a keep writes.
+fn cell_count(value: &Value) -> usize
+    ensures { result ≡ length (value_bytes value.now) + chip_named }
 {
-    for i in 0..count {
-        cells[p + keep_place(bytes.len(), i)] = keep_cell(bytes, i);
-    }
+    value.as_slice().len() + OWN_CELLS
 }
 
-// A keep, at the slot whose first cell is `p`.
-fn keep_slot(cells: &mut [u8], p: usize, bytes: &[u8]) -> Result<(), MemoryRefusal>
-    requires room { p + slot_cells ≤ length cells.old }
-    requires most { length bytes.now ≤ max_batch_bytes }
-    ensures answer { KeepAnswer (slot_holds cells.old p) bytes.now result }
-    ensures cells { cells.new ≡ keep_cells cells.old p bytes.now }
-{
-    match held(cells, p) {
-        Some(old) => {
-            if same(old, bytes) {
+impl Chip<'_> {
+    // What the slot at a place holds.
+    fn held(&self, place: Place) -> Option<&[u8]>
+        ensures { behind result ≡ slot_holds self.now.cells.now (place_start place) }
+    {
+        let p = slot_start(place);
+        if self.cells[p + MARK_PLACE] != MARK {
+            return None;
+        }
+        let len = usize::from(self.cells[p]).clamp(1, MAX_BATCH_BYTES);
+        Some(&self.cells[p + 1..p + 1 + len])
+    }
+
+    // Writes into cell `i` of a keep.
+    fn write_cell(&mut self, keep: &Keep, i: usize, cell: u8)
+        ensures { self.new.cells.now ≡ slice_set self.old.cells.now (keep_start keep.now + keep_place (length (keep_bytes keep.now)) i) cell }
+    {
+        let p = slot_start(keep.place);
+        self.cells[p + keep_place(keep.value.as_slice().len(), i)] = cell;
+    }
+
+    // Writes the first `count` cells of a keep one by one, in their order: power can fail between any two.
+    fn write_cells(&mut self, keep: &Keep, count: usize)
+        ensures { self.new.cells.now ≡ written self.old.cells.now (keep_start keep.now) (keep_bytes keep.now) count }
+    {
+        for i in 0..count {
+            self.write_cell(keep, i, keep_cell(&keep.value, i));
+        }
+    }
+
+    // A keep, in place.
+    fn write(&mut self, keep: &Keep) -> Result<(), MemoryRefusal>
+        ensures keeps { Keeps (chip_holds self.old.cells.now) keep.now.place.bed keep.now.place.slot (keep_bytes keep.now) result (chip_holds self.new.cells.now) }
+        ensures cells { self.new.cells.now ≡ keep_cells self.old.cells.now (keep_start keep.now) (keep_bytes keep.now) }
+    {
+        match self.held(keep.place) {
+            Some(old) => keep_again(old, keep.value.as_slice()),
+            None => {
+                self.write_cells(keep, cell_count(&keep.value));
                 Ok(())
-            } else {
-                Err(MemoryRefusal::Differs)
             }
         }
-        None => {
-            write_cells(cells, p, bytes, bytes.len() + OWN_CELLS);
-            Ok(())
-        }
     }
-}
 
-// A torn keep, at the slot whose first cell is `p`.
-fn tear_slot(cells: &mut [u8], p: usize, bytes: &[u8], at: usize, junk: u8)
-    requires room { p + slot_cells ≤ length cells.old }
-    requires most { length bytes.now ≤ max_batch_bytes }
-    ensures { cells.new ≡ torn_cells cells.old p bytes.now at junk }
-{
-    if held(cells, p).is_some() {
-        return;
-    }
-    let all = bytes.len() + OWN_CELLS;
-    if at >= all {
-        write_cells(cells, p, bytes, all);
-    } else {
-        write_cells(cells, p, bytes, at);
-        cells[p + keep_place(bytes.len(), at)] = junk;
+    // A torn keep, in place.
+    fn tear(&mut self, keep: &Keep, at: usize, junk: u8)
+        ensures tears { Tears chip_named (chip_holds self.old.cells.now) keep.now.place.bed keep.now.place.slot (keep_bytes keep.now) at (chip_holds self.new.cells.now) }
+        ensures cells { self.new.cells.now ≡ torn_cells self.old.cells.now (keep_start keep.now) (keep_bytes keep.now) at junk }
+    {
+        if self.held(keep.place).is_some() {
+            return;
+        }
+        let count = cell_count(&keep.value);
+        if at >= count {
+            self.write_cells(keep, count);
+        } else {
+            self.write_cells(keep, at);
+            self.write_cell(keep, at, junk);
+        }
     }
 }
 
@@ -176,18 +180,13 @@ impl Memory for Chip<'_> {
         ensures cells { Within bed slot (length bytes.now) → self.new.cells.now ≡ keep_cells self.old.cells.now (start bed slot) bytes.now }
         ensures outside { (Within bed slot (length bytes.now) → ⊥) → self.new.cells.now ≡ self.old.cells.now }
     {
-        if !within(bed, slot, bytes.len()) {
-            return Err(MemoryRefusal::Limits);
-        }
-        let Chip { cells } = self;
-        keep_slot(cells, slot_start(bed, slot), bytes)
+        let keep = Keep::new(bed, slot, bytes).ok_or(MemoryRefusal::Limits)?;
+        self.write(&keep)
     }
 
     fn read(&self, bed: u32, slot: u32) -> Result<Option<&[u8]>, MemoryRefusal> {
-        if !in_place(bed, slot) {
-            return Err(MemoryRefusal::Limits);
-        }
-        Ok(held(self.cells, slot_start(bed, slot)))
+        let place = Place::new(bed, slot).ok_or(MemoryRefusal::Limits)?;
+        Ok(self.held(place))
     }
 
     fn torn_keep(&mut self, bed: u32, slot: u32, bytes: &[u8], at: u32, junk: u8)
@@ -195,10 +194,8 @@ impl Memory for Chip<'_> {
         ensures cells { Within bed slot (length bytes.now) → self.new.cells.now ≡ torn_cells self.old.cells.now (start bed slot) bytes.now at junk }
         ensures outside { (Within bed slot (length bytes.now) → ⊥) → self.new.cells.now ≡ self.old.cells.now }
     {
-        if !within(bed, slot, bytes.len()) {
-            return;
+        if let Some(keep) = Keep::new(bed, slot, bytes) {
+            self.tear(&keep, at as usize, junk);
         }
-        let Chip { cells } = self;
-        tear_slot(cells, slot_start(bed, slot), bytes, at as usize, junk);
     }
 }

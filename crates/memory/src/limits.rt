@@ -1,6 +1,5 @@
 // The limits of a memory. specs/Limits.antt has the same numbers for the contracts.
-ghost use Rattle.std.specs.Prelude.{◌≡◌, ◌<◌, length, Decides};
-ghost use Rattle.memory.specs.Limits.{slot_index, all_slots};
+ghost use Rattle.std.specs.Prelude.{Decides};
 ghost use Rattle.memory.specs.Meaning.{InPlace, Within};
 
 use codec::limits::{MAX_BATCH_BYTES, MAX_BEDS};
@@ -15,15 +14,6 @@ pub fn in_place(bed: u32, slot: u32) -> bool
     ensures { Decides result (InPlace bed slot) }
 {
     bed < u32::from(MAX_BEDS) && slot < SLOTS
-}
-
-// The slots of all beds stand one after another, those of bed 0 first.
-pub(crate) fn slot_index(bed: u32, slot: u32) -> usize
-    requires { InPlace bed slot }
-    ensures value { result ≡ slot_index bed slot }
-    ensures within { result < all_slots }
-{
-    (SLOTS * bed + slot) as usize
 }
 
 /// Whether so many bytes may be kept there.

@@ -1,10 +1,22 @@
 // The memory of the beds, by what its slots hold.
-ghost use Rattle.std.specs.Prelude.{◌≡◌, ℕ, List, Option};
-ghost use Rattle.memory.specs.Meaning.{Bounded, Keeps, Reads, Tears};
+ghost use Rattle.std.specs.Prelude.{◌≡◌, ℕ, List, Some, Option};
+ghost use Rattle.memory.specs.Meaning.{Bounded, KeepAnswer, Keeps, Reads, Tears};
 
 use super::refusal::MemoryRefusal;
 
+// What a full slot answers to a keep.
+pub(crate) fn keep_again(held: &[u8], bytes: &[u8]) -> Result<(), MemoryRefusal>
+    ensures { KeepAnswer (Some held.now) bytes.now result }
+{
+    if held == bytes {
+        Ok(())
+    } else {
+        Err(MemoryRefusal::Differs)
+    }
+}
+
 /// A memory. `holds` is what it means: for each bed and slot, nothing or 1 to 65 bytes.
+// The calls take plain numbers, any of them: what is out of range is refused.
 pub trait Memory {
     ghost holds: { Self → ℕ → ℕ → Option (List ℕ) };
 
@@ -16,7 +28,7 @@ pub trait Memory {
 
     const NAMED: usize;
 
-    // The ghost number is the constant.
+    // The ghost number is the constant. A method says so, since the check ties no ghost constant to one of a type with a lifetime.
     fn named_cells() -> usize
         ensures { result ≡ named };
 

@@ -2,26 +2,21 @@
 ghost use Rattle.std.specs.Prelude.{◌≡◌};
 ghost use Rattle.memory.specs.Refusal.{refusal_number};
 
-/// Why a memory refuses. What it holds is then as it was.
+/// Why a memory refuses. What it holds is then as it was. The numbers are those of the documents.
 #[derive(Clone, Copy)]
 pub enum MemoryRefusal {
     /// Fewer cells than a chip has.
-    Cells,
+    Cells = 16,
     /// No such bed or slot, or a length outside 1 to 65.
-    Limits,
+    Limits = 17,
     /// The slot holds other bytes.
-    Differs,
+    Differs = 18,
 }
 
 impl MemoryRefusal {
-    /// The number that documents give it.
     pub fn number(self) -> u8
         ensures { result ≡ refusal_number self }
     {
-        match self {
-            MemoryRefusal::Cells => 16,
-            MemoryRefusal::Limits => 17,
-            MemoryRefusal::Differs => 18,
-        }
+        self as u8
     }
 }

@@ -5,15 +5,17 @@ ghost use Rattle.memory.specs.Meaning.{behind, Tears};
 ghost use Rattle.codec.specs.Value.{shown};
 ghost use Rattle.memory.specs.Table.{table_holds, table_named, table_bounded};
 
-use super::bytes::same;
-use super::limits::{ALL_SLOTS, in_place, slot_index, within};
-use super::memory::Memory;
+use super::keep::Keep;
+use super::limits::ALL_SLOTS;
+use super::memory::{Memory, keep_again};
+use super::place::Place;
 use super::refusal::MemoryRefusal;
 use codec::value::Value;
 
-/// A table of 8 beds and 32 slots, in one row.
+/// A table of 8 beds and 32 slots.
 #[derive(Drop)]
 pub struct Table {
+    // In one row, as on a chip, so that one index serves both. What lies in an array of arrays is not reached where it has ghost fields.
     slots: [Option<Value>; ALL_SLOTS],
 }
 
@@ -26,15 +28,12 @@ impl Table {
             slots: [None; ALL_SLOTS],
         }
     }
-}
 
-fn held(slots: &[Option<Value>; ALL_SLOTS], index: usize) -> Option<&[u8]>
-    requires { index < all_slots }
-    ensures { behind result ≡ shown (slice_index_or slots.now index None) }
-{
-    match &slots[index] {
-        Some(value) => Some(value.as_slice()),
-        None => None,
+    // What the slot at a place holds.
+    fn held(&self, place: Place) -> Option<&[u8]>
+        ensures { behind result ≡ table_holds self.now.slots place.bed place.slot }
+    {
+        self.slots[place.index()].as_ref().map(Value::as_slice)
     }
 }
 
@@ -54,42 +53,32 @@ impl Memory for Table {
     }
 
     fn keep(&mut self, bed: u32, slot: u32, bytes: &[u8]) -> Result<(), MemoryRefusal> {
-        if !within(bed, slot, bytes.len()) {
-            return Err(MemoryRefusal::Limits);
-        }
-        let index = slot_index(bed, slot);
-        match held(&self.slots, index) {
-            Some(old) => {
-                if same(old, bytes) {
-                    Ok(())
-                } else {
-                    Err(MemoryRefusal::Differs)
-                }
-            }
+        let Keep { place, value } = Keep::new(bed, slot, bytes).ok_or(MemoryRefusal::Limits)?;
+        match self.held(place) {
+            Some(old) => keep_again(old, bytes),
             None => {
-                self.slots[index] = Value::new(bytes);
+                self.slots[place.index()] = Some(value);
                 Ok(())
             }
         }
     }
 
     fn read(&self, bed: u32, slot: u32) -> Result<Option<&[u8]>, MemoryRefusal> {
-        if !in_place(bed, slot) {
-            return Err(MemoryRefusal::Limits);
-        }
-        Ok(held(&self.slots, slot_index(bed, slot)))
+        let place = Place::new(bed, slot).ok_or(MemoryRefusal::Limits)?;
+        Ok(self.held(place))
     }
 
     fn torn_keep(&mut self, bed: u32, slot: u32, bytes: &[u8], at: u32, _junk: u8)
         ensures torn { Tears table_named (table_holds self.old.slots) bed slot bytes.now at (table_holds self.new.slots) }
         ensures early { at < length bytes.now → self.new ≡ self.old }
     {
-        if !within(bed, slot, bytes.len()) || (at as usize) < bytes.len() + Self::NAMED {
+        if (at as usize) < bytes.len() + Self::NAMED {
             return;
         }
-        let index = slot_index(bed, slot);
-        if held(&self.slots, index).is_none() {
-            self.slots[index] = Value::new(bytes);
+        if let Some(Keep { place, value }) = Keep::new(bed, slot, bytes)
+            && self.held(place).is_none()
+        {
+            self.slots[place.index()] = Some(value);
         }
     }
 }
