@@ -7,4 +7,5 @@ pub mod laws;
 pub mod limits;
 pub mod majority;
 pub mod refusal;
+mod round;
 pub mod service;

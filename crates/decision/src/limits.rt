@@ -2,7 +2,7 @@
 
 /// The rounds of a group.
 pub const ROUNDS: u32 = 32;
-/// The decisions: one for each round.
+/// The most decisions: one for each round.
 pub const ALL_DECISIONS: usize = 32;
-/// The proposals: one for each bed and round, those of bed 0 first.
+/// The most proposals: one for each bed and round.
 pub const ALL_PROPOSALS: usize = 256;

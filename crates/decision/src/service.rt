@@ -7,6 +7,7 @@ use codec::beds::Beds;
 use codec::value::Value;
 
 /// What a put answers: whether the proposal was recorded, or the bed had one in that round.
+// Two names and no bool, since the calls after a put would not show which of the two `true` is.
 #[derive(Clone, Copy)]
 pub enum PutAnswer {
     Taken,
@@ -14,6 +15,7 @@ pub enum PutAnswer {
 }
 
 /// A decision service. `board` is what it means: the proposals by bed and round, and the decisions by round.
+// The calls take plain numbers, any of them: what is out of range is refused.
 pub trait DecisionService {
     ghost board: { Self → Board };
 

@@ -1,16 +1,12 @@
-use Rattle.std.proofs.Common.{is_some, sym, ap, ◌∙◌, arith}
-use Rattle.decision.specs.Ballots.{board_of}
-use Rattle.decision.proofs.Tallies.{shown_some, lowest_found, lowest_on}
+use Rattle.decision.specs.Ballots.{board_of, tally_at, IsLowest}
+use Rattle.std.proofs.Common.{subst}
+use Rattle.decision.specs.declared.ballots.Tally.{Tally}
+use Rattle.decision.proofs.Tallies.{row_shows, lowest_shown}
 use Rattle.decision.proofs.ballots.Ballots.lowest.Goals as goal
 
-pub returns-then-is_some : goal.returns-then-is_some
-returns-then-is_some c =
-    let s = board_of c.args.self.now in
-    let p = c.proposal-proposal.ensures in
-    p ∙ lowest_found s c.args.round c.loop-bed.bed s.beds (omega arith) c.loop-bed.invariant (ap is_some (sym p) ∙ shown_some c.proposal-proposal.result ∙ sym c.if-is_some.ensures)
-
-pub loop-bed-preserved : goal.loop-bed-preserved
-loop-bed-preserved c =
-    let s = board_of c.args.self.now in
-    let p = c.proposal-proposal.ensures in
-    lowest_on s c.args.round c.loop-bed.bed c.loop-bed.invariant (ap is_some (sym p) ∙ shown_some c.proposal-proposal.result ∙ sym c.if-is_some.ensures)
+pub returns : goal.returns
+returns c =
+    let b = c.args.self.now in
+    let k = c.args.round.number in
+    lowest_shown (board_of b) k b.beds.count (tally_at b.rounds k).proposals c.lowest.result (row_shows b k c.args.round.below)
+    (subst (λ (t : Tally). IsLowest t.proposals b.beds.count c.lowest.result) c.tally.ensures c.lowest.ensures)
