@@ -1,6 +1,7 @@
 use Rattle.std.proofs.Common.{refl}
 use Rattle.codec.specs.Number.{form, number_at}
-use Rattle.codec.specs.Ticket.{same_identity, stands_before, ranged_at, ticket_at, ticket_bytes}
+use Rattle.codec.specs.Ranged.{ranged_at}
+use Rattle.codec.specs.Ticket.{same_identity, stands_before, ticket_at, ticket_bytes}
 use Rattle.codec.specs.TicketList.{list_bytes, next_at}
 use Rattle.codec.specs.Reading.{batch_head, batch_reading}
 use Rattle.codec.specs.Batch.{batch_of}
