@@ -1,5 +1,5 @@
 -- The lines that are read are those of the grammar.
-use Rattle.std.proofs.Common.{◌≡◌, ℕ, ◌+◌, ◌-◌, ◌*◌, ◌≤◌, Bool, true, false, cond, ◌&&◌, eqb, leb, List, [], ◌∷◌, get_or, drop, Some, None, Ok, Err, Option, Result, sym, refl, ap, ◌∙◌, subst, inl, inr, arith}
+use Rattle.std.proofs.Common.{◌≡◌, ℕ, ◌+◌, ◌-◌, ◌*◌, ◌≤◌, Bool, true, false, cond, ◌&&◌, eqb, leb, List, [], ◌∷◌, get_or, drop, Some, None, Ok, Err, Option, Result, vec_items, sym, refl, ap, ◌∙◌, subst, inl, inr, arith}
 use Rattle.std.proofs.lemmas.Bool.{cond-true, cond-false, eq-eqb, ne_eqb, eqb-true, leb-true, and_parts, cases_eq}
 use Rattle.std.proofs.lemmas.Bool.Decides.{nat_tests}
 use Rattle.std.specs.Option.{ok_or}
@@ -193,15 +193,15 @@ parts_back (c ∷ s ∷ d ∷ e ∷ es) form n bs f b h =
     let w = beds_back (c ∷ s ∷ d ∷ e ∷ es) n b in
     full_at c s d e n form es bs (form_back c (s ∷ d ∷ e ∷ es) form f) w (pairs_back 4 es bs (sym (hex_space 3 e es w.behind) ∙ h))
 
-asks_back : (cs : List ℕ) (q : Asked) → request_of cs ≡ Ok q → Asks q.form q.beds q.bytes cs
-asks_back cs q e =
-    let f = then_ok (form_of cs) _ q e in
-    let b = then_ok (beds_of cs) _ q f.2 in
-    let h = then_ok (hex_at 3 (drop 3 cs)) _ q b.2 in
-    let k : found f.0 b.0 h.0 ≡ q = cc in
+pub asks_back : (cs : List ℕ) (form : Form) (n : ℕ) (bs : List ℕ) → request_of cs ≡ Ok (found form n bs) → Asks form n bs cs
+asks_back cs form n bs e =
+    let f = then_ok (form_of cs) _ (found form n bs) e in
+    let b = then_ok (beds_of cs) _ (found form n bs) f.2 in
+    let h = then_ok (hex_at 3 (drop 3 cs)) _ (found form n bs) b.2 in
+    let k : found f.0 b.0 h.0 ≡ found form n bs = cc in
     subst (λ (x : Asked). Asks x.form x.beds x.bytes cs) k (parts_back cs f.0 b.0 h.0 f.1 b.1 h.1)
 
 pub by_grammar : (r : Result Request LineError) (cs : List ℕ) → Reads asked r (request_of cs) → ByGrammar r cs
-by_grammar (Ok q) cs e = asks_back cs (asked q) e
+by_grammar (Ok q) cs e = asks_back cs q.form q.beds.count (vec_items q.bytes) e
 by_grammar (Err (le.Fault f)) cs e = λ form n bs a. let k = asks_read a in let z : ◌≡◌ {A = ℕ} 0 1 = cc in omega arith
-by_grammar (Err le.Memory) cs e = tt
+by_grammar (Err (le.Memory m)) cs e = tt

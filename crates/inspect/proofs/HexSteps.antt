@@ -1,28 +1,13 @@
 -- Hexadecimal text, one digit, one pair and one space at a time.
-use Rattle.std.proofs.Common.{◌≡◌, ℕ, ◌+◌, ◌*◌, ◌<◌, ◌≤◌, cond, eqb, List, [], ◌∷◌, ◌++◌, length, get_or, drop, IfSome, IfOk, Some, None, Ok, Err, Option, Result, sym, refl, ap, ◌∙◌, append_assoc, append-nil, add_assoc}
-use Rattle.std.proofs.lemmas.List.{at_drop_more, at_drop_all, drop_more, drop-drop}
+use Rattle.std.proofs.Common.{◌≡◌, ℕ, ◌+◌, ◌*◌, ◌<◌, List, [], ◌∷◌, ◌++◌, length, get_or, drop, Some, None, Ok, Err, Option, Result, IfSome, IfOk, sym, refl, ap, ◌∙◌, append_assoc, add_assoc}
+use Rattle.std.proofs.lemmas.List.{at_drop_more, drop_more, drop-drop}
 use Rattle.std.proofs.lemmas.Bool.{cond-true, cond-false, eq-eqb, ne_eqb}
 use Rattle.std.specs.Option.{ok_or}
-use Rattle.codec.specs.Chain.{map_ok}
 use Rattle.inspect.specs.Fault.{and_then}
-use Rattle.inspect.specs.Hex.{digit_of, digit_at, pair_at, byte_first, hex_at}
+use Rattle.inspect.specs.Hex.{digit_at, pair_at, byte_first, hex_at}
 use Rattle.inspect.specs.declared.fault.LineFault.{LineFault}
-use Rattle.inspect.specs.declared.fault.LineFault.TheVariants as lf
 
 -- ---- a digit
-
-pub digit_past : (cs : List ℕ) (at : ℕ) → length cs ≤ at → Err (lf.HalfPair at) ≡ digit_at at (drop at cs)
-digit_past cs at h = sym (at_drop_all (digit_at at) cs at h)
-
-digit_here : (cs : List ℕ) (at : ℕ) → at < length cs
-    → digit_at at (drop at cs) ≡ cond (eqb (get_or cs at 0) 32) (Err (lf.HalfPair at)) (ok_or (digit_of (get_or cs at 0)) (lf.NotHex at))
-digit_here cs at h = at_drop_more (digit_at at) cs at 0 h
-
-pub digit_space : (cs : List ℕ) (at : ℕ) → at < length cs → get_or cs at 0 ≡ 32 → Err (lf.HalfPair at) ≡ digit_at at (drop at cs)
-digit_space cs at h e = sym (digit_here cs at h ∙ cond-true _ _ _ (eq-eqb _ _ e))
-
-pub digit_other : (cs : List ℕ) (at : ℕ) → at < length cs → (get_or cs at 0 ≡ 32 → ⊥) → ok_or (digit_of (get_or cs at 0)) (lf.NotHex at) ≡ digit_at at (drop at cs)
-digit_other cs at h e = sym (digit_here cs at h ∙ cond-false _ _ _ (ne_eqb _ _ e))
 
 pub digit_below : {P : Type 0} (o : Option ℕ) (f : LineFault) → P → IfSome o (λ d. d < 16) → IfOk (ok_or o f) (λ d. (d < 16) × P)
 digit_below None f p h = tt
@@ -56,7 +41,8 @@ hex_pair at c (d ∷ ds) e = cond-false _ _ _ (ne_eqb _ _ e)
 
 -- what a text comes to, after bytes that were read before it
 abbrev pub after : List ℕ → Result (List ℕ) LineFault → Result (List ℕ) LineFault
-after bs r = map_ok (λ xs. bs ++ xs) r
+after bs (Ok xs) = Ok (bs ++ xs)
+after bs (Err f) = Err f
 
 pub space_step : (cs : List ℕ) (at : ℕ) → at < length cs → get_or cs at 0 ≡ 32 → hex_at at (drop at cs) ≡ hex_at (at + 1) (drop (at + 1) cs)
 space_step cs at h e = at_drop_more (hex_at at) cs at 0 h ∙ hex_space at _ _ e
@@ -82,6 +68,3 @@ pub fault_step : (cs bs : List ℕ) (at : ℕ) (f : LineFault) → at < length c
     → after bs (hex_at at (drop at cs)) ≡ Err f
 fault_step cs bs at f h e p =
     ap (after bs) (pair_first cs at h e ∙ ap (λ (r : Result ℕ LineFault). byte_first r (hex_at (at + 2) (drop (at + 2) cs))) (sym p))
-
-pub hex_end : (cs bs : List ℕ) (at : ℕ) → length cs ≤ at → after bs (hex_at at (drop at cs)) ≡ Ok bs
-hex_end cs bs at h = ap (after bs) (at_drop_all (hex_at at) cs at h) ∙ ap (λ (l : List ℕ). Ok l) (append-nil bs)

@@ -1,4 +1,3 @@
-mod AnswerSteps
 mod Grammars
 mod HexSteps
 mod ImageSteps

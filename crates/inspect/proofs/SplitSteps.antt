@@ -1,27 +1,19 @@
 -- The first line of a text, and the lines after it.
-use Rattle.std.proofs.Common.{◌≡◌, ℕ, suc, ◌+◌, ◌<◌, ◌≤◌, Bool, true, false, cond, eqb, ◌⊎◌, List, [], ◌∷◌, length, get_or, take, drop, sym, refl, ap, ◌∙◌, subst, inl, inr, add-one, arith}
-use Rattle.std.proofs.lemmas.List.{at_drop_more, at_drop_all}
+use Rattle.std.proofs.Common.{◌≡◌, ℕ, suc, ◌+◌, ◌<◌, Bool, true, false, cond, eqb, ◌≢◌, Option, ◌⊎◌, List, [], ◌∷◌, length, take, drop, sym, refl, ap, ◌∙◌, subst, inl, inr, add-one, arith}
+use Rattle.std.proofs.lemmas.Iterator.{index_from_first}
+use Rattle.std.specs.List.{AllWithin, HoldsAt}
+use Rattle.std.specs.Option.{unwrap_or, MatchOption}
 use Rattle.std.proofs.lemmas.Bool.{cond-true, cond-false, cond_both, eq-eqb, ne_eqb, eqb-true, eqb-false}
 use Rattle.inspect.specs.Split.{end_of, on_first, lines_of, MadeOf, none, last, more}
 
 -- ---- the end of the first line
 
-pub end_here : (cs : List ℕ) (i : ℕ) → i < length cs → get_or cs i 0 ≡ 10 → end_of (drop i cs) ≡ 0
-end_here cs i h e = at_drop_more end_of cs i 0 h ∙ cond-true _ _ _ (eq-eqb _ _ e)
-
-pub end_later : (cs : List ℕ) (i : ℕ) → i < length cs → (get_or cs i 0 ≡ 10 → ⊥) → end_of (drop i cs) ≡ end_of (drop (i + 1) cs) + 1
-end_later cs i h e = at_drop_more end_of cs i 0 h ∙ cond-false _ _ _ (ne_eqb _ _ e) ∙ sym (add-one _)
-
-pub end_none : (cs : List ℕ) (i : ℕ) → length cs ≤ i → end_of (drop i cs) ≡ 0
-end_none cs i h = at_drop_all end_of cs i h
-
-end_by : (b : Bool) (c : ℕ) (cs : List ℕ) → end_of cs ≤ length cs → cond b 0 (suc (end_of cs)) ≤ suc (length cs)
-end_by true c cs h = omega arith
-end_by false c cs h = omega arith
-
-pub end_within : (cs : List ℕ) → end_of cs ≤ length cs
-end_within [] = omega arith
-end_within (c ∷ cs) = end_by (eqb c 10) c cs (end_within cs)
+-- a line feed was looked for, and found there or not at all
+pub end_found : (cs : List ℕ) (r : Option ℕ) → MatchOption r (AllWithin (λ x. x ≢ 10) cs 0 (length cs)) (λ i. (i < length cs) × HoldsAt (λ x. x ≡ 10) cs i × AllWithin (λ x. x ≢ 10) cs 0 i)
+    → end_of cs ≡ unwrap_or r (length cs)
+end_found =
+    index_from_first end_of (λ x. x ≡ 10) (λ x. x ≢ 10) refl
+    (λ c cs e. cond-true _ _ _ (eq-eqb _ _ e)) (λ c cs e. cond-false _ _ _ (ne_eqb _ _ e) ∙ sym (add-one _))
 
 -- ---- the first line
 

@@ -1,17 +1,21 @@
 -- What is printed for a line: the parts of its bytes in turn, or what is wrong with it; assumes nothing.
-use Rattle.std.specs.Prelude.{ℕ, List, [], ◌∷◌, ◌++◌, length, Ok, Err, codes, decimal, Result}
+use Rattle.std.specs.Prelude.{◌≡◌, ℕ, List, [], ◌∷◌, ◌++◌, length, Ok, Err, IfOk, String, string_bytes, codes, decimal, Result}
 use Rattle.codec.specs.Reading.{Reading, head, ticket, ended, faulty, batch_reading, packet_reading}
 use Rattle.codec.specs.Report.{cause_number, whole_report}
+use Rattle.codec.specs.Words.{layer_name, fault_words}
 use Rattle.codec.specs.declared.reader.Head.{Head}
 use Rattle.codec.specs.declared.reader.Head.TheVariants as hd
 use Rattle.codec.specs.declared.ticket.Ticket.{Ticket}
 use Rattle.codec.specs.declared.whole.WholeFault.{WholeFault}
 use Rattle.inspect.specs.Fault.{line_words}
 use Rattle.inspect.specs.Line.{Asked, request_of}
-use Rattle.inspect.specs.Words.{layer_name, fault_words}
 use Rattle.inspect.specs.declared.fault.LineFault.{LineFault}
 use Rattle.inspect.specs.declared.line.Form.{Form}
 use Rattle.inspect.specs.declared.line.Form.TheVariants as fo
+
+-- what is printed is a text, unless no memory was left for it
+abbrev pub Prints : {Z E : Type 0} → Result (String Z) E → List ℕ → Type 0
+Prints result text = IfOk result (λ s. string_bytes s ≡ text)
 
 -- pieces of text in a row, and a line feed
 abbrev pub row : List (List ℕ) → List ℕ

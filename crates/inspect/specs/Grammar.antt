@@ -30,4 +30,4 @@ pub data Asks : Form → ℕ → List ℕ → List ℕ → Type 0 where
 abbrev pub ByGrammar : Result Request LineError → List ℕ → Type 0
 ByGrammar (Ok q) cs = Asks q.form q.beds.count (vec_items q.bytes) cs
 ByGrammar (Err (le.Fault f)) cs = (form : Form) (n : ℕ) (bs : List ℕ) → Asks form n bs cs → ⊥
-ByGrammar (Err le.Memory) cs = Unit {0}
+ByGrammar (Err (le.Memory e)) cs = Unit {0}

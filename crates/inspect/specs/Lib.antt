@@ -3,6 +3,5 @@ pub mod Split
 pub mod Hex
 pub mod Line
 pub mod Grammar
-pub mod Words
 pub mod Answer
 pub mod Image

@@ -3,7 +3,9 @@ ghost use Rattle.std.specs.Prelude.{◌≡◌, Some};
 ghost use Rattle.inspect.specs.Fault.{line_words};
 ghost use Rattle.inspect.specs.declared.fault.LineError.TheVariants.{Fault, Memory};
 
-use std::alloc::AllocFailed;
+use memory::chip::CELLS;
+use memory::refusal::MemoryRefusal;
+use std::alloc::{AllocError, AllocFailed};
 use std::fmt;
 
 /// Why a line cannot be read. An offset counts the characters of the line from 0.
@@ -47,10 +49,13 @@ impl fmt::Display for LineFault {
             ),
             LineFault::NoFile => write!(f, "no name of a file follows the number of beds"),
             LineFault::Unread => write!(f, "the file cannot be read"),
-            LineFault::FewCells(cells) => write!(
-                f,
-                "refusal 16, the file has {cells} cells and a chip has 17152"
-            ),
+            LineFault::FewCells(cells) => {
+                let refusal = MemoryRefusal::Cells.number();
+                write!(
+                    f,
+                    "refusal {refusal}, the file has {cells} cells and a chip has {CELLS}"
+                )
+            }
         }
     }
 }
@@ -59,9 +64,10 @@ impl fmt::Display for LineFault {
 #[derive(Clone, Copy)]
 pub enum LineError {
     Fault(LineFault),
-    Memory,
+    Memory(AllocError),
 }
 
+// By hand, here and below: a derived conversion would not say what it gives.
 impl From<LineFault> for LineError {
     ghost from_gives = { λ x y. y ≡ Fault x };
 
@@ -71,9 +77,9 @@ impl From<LineFault> for LineError {
 }
 
 impl From<AllocFailed<u8>> for LineError {
-    ghost from_gives = { λ _ y. y ≡ Memory };
+    ghost from_gives = { λ _ y. y ≡ Memory (record {}) };
 
-    fn from(_refused: AllocFailed<u8>) -> LineError {
-        LineError::Memory
+    fn from(refused: AllocFailed<u8>) -> LineError {
+        LineError::Memory(refused.into())
     }
 }

@@ -10,12 +10,7 @@ fn digit_value(character: u8) -> Option<u8>
     ensures value { result ≡ digit_of character }
     ensures below { IfSome result (λ d. d < 16) }
 {
-    match character {
-        b'0'..=b'9' => Some(character - b'0'),
-        b'A'..=b'F' => Some(character - b'A' + 10),
-        b'a'..=b'f' => Some(character - b'a' + 10),
-        _ => None,
-    }
+    char::from(character).to_digit(16).map(|digit| digit as u8)
 }
 
 // The digit at `at`, where a pair has its first or its second.
@@ -23,10 +18,10 @@ fn read_digit(line: &[u8], at: usize) -> Result<u8, LineFault>
     ensures value { result ≡ digit_at at (drop at line.now) }
     ensures within { IfOk result (λ d. (d < 16) × (at < length line.now)) }
 {
-    if at >= line.len() || line[at] == b' ' {
-        return Err(LineFault::HalfPair(at));
+    match line.get(at) {
+        None | Some(b' ') => Err(LineFault::HalfPair(at)),
+        Some(character) => digit_value(*character).ok_or(LineFault::NotHex(at)),
     }
-    digit_value(line[at]).ok_or(LineFault::NotHex(at))
 }
 
 // The byte that the pair at `at` stands for.
@@ -40,13 +35,15 @@ fn read_pair(line: &[u8], at: usize) -> Result<u8, LineFault>
 }
 
 /// The bytes that the pairs of digits from `start` on stand for. Spaces may stand before, between and after the pairs.
+#[tactic(auto, using(crate::proofs::HexSteps::space_step, crate::proofs::HexSteps::pair_step))]
 pub fn read_hex(heap: Global, line: &[u8], start: usize) -> Result<Vec<u8>, LineError>
     ensures { Reads vec_items result (hex_at start (drop start line.now)) }
 {
     let mut bytes = Vec::new(heap);
     let mut at = start;
-    while at < line.len() {
-        if line[at] == b' ' {
+    // A pair takes two characters and a space takes one, so no iterator over the line steps as this offset does.
+    while let Some(character) = line.get(at) {
+        if *character == b' ' {
             at += 1;
         } else {
             bytes.push(read_pair(line, at)?)?;

@@ -14,6 +14,7 @@ use std::alloc::Global;
 const HEX_START: usize = 3;
 
 /// What the bytes are to be read as.
+// A name and no reader: what a line asks for is stated before its bytes are read.
 #[derive(Clone, Copy)]
 pub enum Form {
     Batch,
@@ -53,6 +54,7 @@ pub fn read_beds(line: &[u8]) -> Result<Beds, LineFault>
 }
 
 /// What the line asks for.
+#[tactic(auto, using(crate::proofs::Grammars::by_grammar, crate::proofs::Grammars::asks_back))]
 pub fn read_line(heap: Global, line: &[u8]) -> Result<Request, LineError>
     ensures value { Reads asked result (request_of line.now) }
     ensures grammar { ByGrammar result line.now }

@@ -7,13 +7,14 @@ mod hex;
 mod image;
 mod line;
 mod split;
-mod words;
 
 use answer::{answer_line, refusal_text};
+use codec::beds::Beds;
 use fault::LineFault;
 use image::{image_file, image_text};
 use line::read_beds;
 use split::Lines;
+use std::alloc::AllocError;
 use std::io::Read;
 use std::{fs, io, str};
 
@@ -23,20 +24,20 @@ fn read_cells(rt: &HostRuntime, name: &[u8]) -> Option<Vec<u8>> {
     fs::read(rt, path).ok()
 }
 
+// The cells of the image that a line is about, and the number of beds.
+fn read_image(rt: &HostRuntime, line: &[u8]) -> Result<(Vec<u8>, Beds), LineFault> {
+    let beds = read_beds(line)?;
+    let name = image_file(line)?;
+    let cells = read_cells(rt, name).ok_or(LineFault::Unread)?;
+    Ok((cells, beds))
+}
+
 // The answer to a line about an image.
-fn answer_image(rt: &HostRuntime, number: usize, line: &[u8]) -> io::Result<String> {
+fn answer_image(rt: &HostRuntime, number: usize, line: &[u8]) -> Result<String, AllocError> {
     let heap = rt.alloc();
-    let beds = match read_beds(line) {
-        Ok(beds) => beds,
-        Err(fault) => return Ok(refusal_text(heap, number, fault)?),
-    };
-    let name = match image_file(line) {
-        Ok(name) => name,
-        Err(fault) => return Ok(refusal_text(heap, number, fault)?),
-    };
-    match read_cells(rt, name) {
-        Some(mut cells) => Ok(image_text(heap, number, cells.as_mut_slice(), beds)?),
-        None => Ok(refusal_text(heap, number, LineFault::Unread)?),
+    match read_image(rt, line) {
+        Ok((mut cells, beds)) => image_text(heap, number, cells.as_mut_slice(), beds),
+        Err(fault) => refusal_text(heap, number, fault),
     }
 }
 

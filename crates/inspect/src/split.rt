@@ -4,12 +4,14 @@ ghost use Rattle.inspect.specs.Split.{end_of, lines_of, MadeOf};
 ghost use Rattle.std.specs.Iterator.{at_most};
 
 /// The lines of a text, each without the line feed that ends it.
+// The library's `split` gives an empty line past a last line feed, and its `split_inclusive` says nothing of all its parts.
 #[derive(Drop)]
 pub struct Lines<'a> {
     rest: &'a [u8],
 }
 
 impl<'a> Lines<'a> {
+    #[tactic(auto, using(crate::proofs::SplitSteps::lines_of_lem))]
     pub fn new(text: &'a [u8]) -> Self
         ensures rest { result.rest.now ≡ text.now }
         ensures lines { MadeOf (lines_of result.rest.now) text.now }
@@ -18,29 +20,14 @@ impl<'a> Lines<'a> {
     }
 }
 
-// The offset of the first line feed, or the length where there is none.
-fn line_end(text: &[u8]) -> usize
-    ensures value { result ≡ end_of text.now }
-    ensures within { result ≤ length text.now }
-{
-    for (i, character) in text.iter().enumerate() {
-        if *character == b'\n' {
-            return i;
-        }
-    }
-    text.len()
-}
-
 // The first line, and what follows its line feed.
 fn cut_line(text: &[u8]) -> (&[u8], &[u8])
     ensures line { result.0.now ≡ take (end_of text.now) text.now }
     ensures rest { result.1.now ≡ drop (end_of text.now + 1) text.now }
 {
-    let end = line_end(text);
-    if end < text.len() {
-        (&text[0..end], &text[end + 1..])
-    } else {
-        (text, &text[end..])
+    match text.iter().position(|character| *character == b'\n') {
+        Some(end) => (&text[..end], &text[end + 1..]),
+        None => (text, &[]),
     }
 }
 
@@ -51,6 +38,7 @@ impl<'a> Iterator for Lines<'a> {
 
     ghost remaining = { λ s. at_most (length s.rest.now) };
 
+    #[tactic(auto, using(crate::proofs::SplitSteps::no_line, crate::proofs::SplitSteps::first_line))]
     fn next(&mut self) -> Option<&'a [u8]> {
         if self.rest.is_empty() {
             return None;

@@ -1,7 +1,8 @@
 // Writes each number of its input in LEB128, to be compared with what another program writes.
 #![tactic(auto)]
 
-use anyhow::anyhow;
+use anyhow::bail;
+use codec::limits::NUMBER_BYTES;
 use codec::number::{read_number, write_number};
 use std::alloc::Global;
 use std::fmt::Write;
@@ -9,17 +10,19 @@ use std::fmt::Write;
 // The answer to one line: the number and its bytes.
 fn answer(heap: Global, line: &str) -> anyhow::Result<String> {
     let number = line.parse::<u32>()?;
-    let mut out = [0u8; 3];
+    // A buffer and the length that was written, since `write_number` writes into what is lent.
+    let mut out = [0; NUMBER_BYTES];
     let Ok(len) = write_number(&mut out, number) else {
         return Ok(format!(in heap; "{number} has no form")?);
     };
+    let form = &out[..len];
     let mut text = format!(in heap; "{number}")?;
-    for byte in &out[0..len] {
+    for byte in form {
         write!(text, " {byte:02X}")?;
     }
-    match read_number(&out[0..len], 0) {
+    match read_number(form, 0) {
         Ok((same, _)) if same == number => Ok(text),
-        _ => Err(anyhow!("the number was not read back")),
+        _ => bail!("the number was not read back"),
     }
 }
 

@@ -1,49 +1,60 @@
 // Calls of any memory and any decision service, and what they answer.
+use codec::limits::MAX_BEDS;
 use decision::service::{DecisionService, PutAnswer};
+use memory::limits::SLOTS;
 use memory::memory::Memory;
 use std::alloc::Global;
-use std::fmt::Write;
+use std::fmt::{Display, Write};
 
-// One call of a memory.
+/// One call of a memory.
+// A value and no closure: it is read from the line before it is known which memory it is for.
 #[derive(Drop)]
 pub enum MemoryCall {
-    Keep(u32, u32, Vec<u8>),
-    Torn(u32, u32, u32, u8, Vec<u8>),
-    Read(u32, u32),
+    Keep {
+        bed: u32,
+        slot: u32,
+        bytes: Vec<u8>,
+    },
+    Torn {
+        bed: u32,
+        slot: u32,
+        at: u32,
+        junk: u8,
+        bytes: Vec<u8>,
+    },
+    Read {
+        bed: u32,
+        slot: u32,
+    },
     All,
 }
 
-fn hex(heap: Global, bytes: &[u8]) -> anyhow::Result<String> {
-    let mut text = String::new(heap);
-    for byte in bytes {
-        write!(text, "{byte:02X}")?;
-    }
-    Ok(text)
+/// The line of an answer, after the name of the call.
+pub fn answer_text<T: Display>(heap: Global, name: &str, answer: &T) -> anyhow::Result<String> {
+    Ok(format!(in heap; "{name} {answer}\n")?)
+}
+
+fn bytes_text(heap: Global, name: &str, bytes: &[u8]) -> anyhow::Result<String> {
+    answer_text(heap, name, &hex::encode_upper(heap, bytes)?)
 }
 
 fn read_text<M: Memory>(heap: Global, memory: &M, bed: u32, slot: u32) -> anyhow::Result<String> {
     match memory.read(bed, slot) {
-        Ok(Some(bytes)) => {
-            let text = hex(heap, bytes)?;
-            Ok(format!(in heap; "read {text}\n")?)
-        }
-        Ok(None) => Ok(format!(in heap; "read -\n")?),
-        Err(refusal) => {
-            let number = refusal.number();
-            Ok(format!(in heap; "read {number}\n")?)
-        }
+        Ok(Some(bytes)) => bytes_text(heap, "read", bytes),
+        Ok(None) => answer_text(heap, "read", &"-"),
+        Err(refusal) => answer_text(heap, "read", &refusal.number()),
     }
 }
 
 fn all_text<M: Memory>(heap: Global, memory: &M) -> anyhow::Result<String> {
     let mut text = String::new(heap);
     let mut full = 0u32;
-    for bed in 0..8u32 {
-        for slot in 0..32u32 {
+    for bed in 0..u32::from(MAX_BEDS) {
+        for slot in 0..SLOTS {
             if let Ok(Some(bytes)) = memory.read(bed, slot) {
-                let held = hex(heap, bytes)?;
+                let held = hex::encode_upper(heap, bytes)?;
                 write!(text, "{bed} {slot} {held}\n")?;
-                full = full.saturating_add(1);
+                full += 1;
             }
         }
     }
@@ -58,18 +69,25 @@ pub fn memory_text<M: Memory>(
     call: &MemoryCall,
 ) -> anyhow::Result<String> {
     match call {
-        MemoryCall::Keep(bed, slot, bytes) => {
+        MemoryCall::Keep { bed, slot, bytes } => {
             let number = match memory.keep(*bed, *slot, bytes.as_slice()) {
+                // What the line of an accepted keep prints.
                 Ok(()) => 0,
                 Err(refusal) => refusal.number(),
             };
-            Ok(format!(in heap; "keep {number}\n")?)
+            answer_text(heap, "keep", &number)
         }
-        MemoryCall::Torn(bed, slot, at, junk, bytes) => {
+        MemoryCall::Torn {
+            bed,
+            slot,
+            at,
+            junk,
+            bytes,
+        } => {
             memory.torn_keep(*bed, *slot, bytes.as_slice(), *at, *junk);
             Ok(String::new(heap))
         }
-        MemoryCall::Read(bed, slot) => read_text(heap, memory, *bed, *slot),
+        MemoryCall::Read { bed, slot } => read_text(heap, memory, *bed, *slot),
         MemoryCall::All => all_text(heap, memory),
     }
 }
@@ -83,12 +101,9 @@ pub fn put_text<S: DecisionService>(
     bytes: &[u8],
 ) -> anyhow::Result<String> {
     match service.put(bed, round, bytes) {
-        Ok(PutAnswer::Taken) => Ok(format!(in heap; "put taken\n")?),
-        Ok(PutAnswer::Had) => Ok(format!(in heap; "put had\n")?),
-        Err(refusal) => {
-            let number = refusal.number();
-            Ok(format!(in heap; "put {number}\n")?)
-        }
+        Ok(PutAnswer::Taken) => answer_text(heap, "put", &"taken"),
+        Ok(PutAnswer::Had) => answer_text(heap, "put", &"had"),
+        Err(refusal) => answer_text(heap, "put", &refusal.number()),
     }
 }
 
@@ -99,13 +114,7 @@ pub fn poll_text<S: DecisionService>(
     round: u32,
 ) -> anyhow::Result<String> {
     match service.poll(round) {
-        Ok(value) => {
-            let text = hex(heap, value.as_slice())?;
-            Ok(format!(in heap; "poll {text}\n")?)
-        }
-        Err(refusal) => {
-            let number = refusal.number();
-            Ok(format!(in heap; "poll {number}\n")?)
-        }
+        Ok(value) => bytes_text(heap, "poll", value.as_slice()),
+        Err(refusal) => answer_text(heap, "poll", &refusal.number()),
     }
 }

@@ -1,39 +1,48 @@
 // The words of a line.
-use anyhow::anyhow;
+use anyhow::{Context, bail};
 use std::alloc::Global;
+use std::str::Split;
 
-/// The number that a word is.
-pub fn number(word: Option<&str>) -> anyhow::Result<u32> {
-    match word {
-        Some(digits) => Ok(digits.parse::<u32>()?),
-        None => Err(anyhow!("a number is missing")),
-    }
+/// The words of a line that are still to be read.
+#[derive(Drop)]
+pub struct Words<'a> {
+    rest: Split<'a, char>,
 }
 
-fn digit_value(digit: u8) -> anyhow::Result<u8> {
-    match digit {
-        b'0'..=b'9' => Ok(digit - b'0'),
-        b'A'..=b'F' => Ok(digit - b'A' + 10),
-        _ => Err(anyhow!("no hexadecimal digit")),
-    }
-}
-
-/// The bytes that a word gives in hexadecimal.
-pub fn bytes(heap: Global, word: Option<&str>) -> anyhow::Result<Vec<u8>> {
-    let Some(digits) = word else {
-        return Err(anyhow!("the bytes are missing"));
-    };
-    let mut all = Vec::new(heap);
-    let mut high: Option<u8> = None;
-    for digit in digits.bytes() {
-        let value = digit_value(digit)?;
-        match high {
-            None => high = Some(value),
-            Some(first) => {
-                all.push(first.wrapping_mul(16).wrapping_add(value))?;
-                high = None;
-            }
+impl<'a> Words<'a> {
+    pub fn new(line: &'a str) -> Words<'a> {
+        Words {
+            rest: line.split(' '),
         }
     }
-    Ok(all)
+
+    /// The word that says what a line does; past the last word, nothing.
+    // `""` and no `None`: an empty word is as little a call as a missing one.
+    pub fn name(&mut self) -> &'a str {
+        self.rest.next().unwrap_or("")
+    }
+
+    /// The number that the next word is.
+    pub fn number(&mut self) -> anyhow::Result<u32> {
+        let digits = self.rest.next().context("a number is missing")?;
+        Ok(digits.parse::<u32>()?)
+    }
+
+    /// The low eight bits of the number that the next word is.
+    pub fn byte(&mut self) -> anyhow::Result<u8> {
+        Ok((self.number()? & 0xff) as u8)
+    }
+
+    /// The bytes that the next word gives in hexadecimal, in upper case. A last digit that stands alone is left out.
+    pub fn bytes(&mut self, heap: Global) -> anyhow::Result<Vec<u8>> {
+        let digits = self
+            .rest
+            .next()
+            .context("the bytes are missing")?
+            .as_bytes();
+        if !digits.iter().all(|digit| digit.is_ascii_digit() || (b'A'..=b'F').contains(digit)) {
+            bail!("no hexadecimal digit");
+        }
+        Ok(hex::decode(heap, &digits[..digits.len() / 2 * 2])?)
+    }
 }
