@@ -2,9 +2,8 @@
 use Rattle.std.proofs.Common.{◌≡◌, ℕ, List, Ok, Err, Result, sym, ap, ◌∙◌, subst}
 use Rattle.codec.specs.Chain.{map_ok, raise}
 use Rattle.codec.specs.Batch.{IsBatch, ReadBatch, batch_of}
-use Rattle.codec.specs.Tickets.{listed}
+use Rattle.codec.specs.Tickets.{Tickets, listed}
 use Rattle.codec.specs.declared.beds.Beds.{Beds}
-use Rattle.codec.specs.declared.tickets.Tickets.{Tickets}
 use Rattle.codec.specs.declared.whole.Site.{Site}
 use Rattle.codec.specs.declared.whole.SitedFault.{SitedFault}
 use Rattle.codec.specs.declared.whole.WholeFault.{WholeFault}

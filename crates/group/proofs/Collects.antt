@@ -14,7 +14,7 @@ use Rattle.decision.specs.Limits.{round_count}
 use Rattle.decision.specs.Meaning.{Board, Polls}
 use Rattle.decision.specs.declared.refusal.DecisionRefusal.{DecisionRefusal}
 use Rattle.decision.specs.declared.refusal.DecisionRefusal.TheVariants as dr
-use Rattle.group.specs.Limits.{set_tickets, queue_tickets}
+use Rattle.group.specs.Limits.{set_tickets}
 use Rattle.group.specs.Queue.{append}
 use Rattle.group.specs.World.{Bed, World, bed, off_bed}
 use Rattle.group.specs.Outcome.{Answer, faulty}
@@ -22,7 +22,7 @@ use Rattle.group.specs.Admission.{admitted}
 use Rattle.group.specs.Calls.{collecting, CollectDoes, Collected, collected}
 use Rattle.group.specs.Proposal.{Collectable}
 use Rattle.group.specs.Record.{bed_of, BedSound, CollectsBatch, waiting_in, queued_in}
-use Rattle.group.specs.Table.{world_of, beds_of, no_record, record_of, admission}
+use Rattle.group.specs.Table.{world_of, beds_of, no_record, record_of}
 use Rattle.group.specs.declared.bed.BedRecord.{BedRecord}
 use Rattle.group.specs.declared.bed.Event.TheVariants as ev
 use Rattle.group.specs.declared.bed.Phase.{Phase}
@@ -33,8 +33,8 @@ use Rattle.group.specs.declared.refusal.Refusal.{Refusal}
 use Rattle.group.specs.declared.refusal.Refusal.TheVariants as rf
 use Rattle.group.specs.declared.table.Table.{Table}
 use Rattle.group.proofs.Options.{cases_option, ok_err, same_err, same_ok}
-use Rattle.group.proofs.Replays.{idle_runs, waiting_runs, idle_waits}
-use Rattle.group.proofs.Tables.{table_size, table_bed, fits, bounded, no_bed, is_off_lem, runs, admit_refuses, admit_accepts}
+use Rattle.group.proofs.Replays.{waiting_runs, idle_waits}
+use Rattle.group.proofs.Tables.{table_size, table_bed, fits, bounded, runs}
 
 -- ---- the rows
 
@@ -48,25 +48,6 @@ accepts Off p h = let z : ◌≡◌ {A = ℕ} 0 1 = cc in absurd (omega arith)
 accepts Idle p h = let z : ◌≡◌ {A = ℕ} 0 1 = cc in absurd (omega arith)
 accepts Waiting p h = refl
 
-pub admits_waiting : (t : Table) (b i : ℕ) (p : Phase) (turn : Turn) → Ok (i, p) ≡ admission t b ev.Collect → turn.index ≡ i → turn.round ≡ (record_of t i).round → Collectable t b turn
-admits_waiting t b i p turn h index round =
-    let a = admit_accepts t b ev.Collect i p h in
-    record { low = a.1; index = index ∙ a.0; waits = accepts (record_of t b).phase p a.2; round = round ∙ ap (λ k. (record_of t k).round) a.0 }
-
-pub collect_refused : (t : Table) (kept : Slots) (board : Board) (b : ℕ) (e : Refusal) → Err e ≡ admission t b ev.Collect → collecting (world_of t kept board) b (λ _ _. ⊥) (Err e) (world_of t kept board)
-collect_refused t kept board b e h =
-    elim (admit_refuses t b ev.Collect e h) [
-      | inl p ↦ subst (λ x. collecting (world_of t kept board) b (λ _ _. ⊥) (Err x) (world_of t kept board)) (sym p.1) (no_bed t kept board b p.0)
-      | inr p ↦
-          elim (refuses (record_of t b).phase e p.1) [
-            | inl o ↦ subst (λ x. collecting (world_of t kept board) b (λ _ _. ⊥) (Err x) (world_of t kept board)) (sym o.1) (is_off_lem t kept board b p.0 o.0)
-            | inr o ↦
-                subst (λ x. collecting (world_of t kept board) b (λ _ _. ⊥) (Err x) (world_of t kept board)) (sym o.1)
-                (runs t kept board b (Err rf.Idle) (world_of t kept board) p.0 (λ z. idle_runs (sym o.0 ∙ z))
-                (inl (ap (λ (x : Bed). x.phase) (table_bed t b no_record p.0) ∙ o.0, (refl, refl))))
-          ]
-    ]
-
 pub collect_refuses : (w : World) (b : ℕ) (a : Answer) (w' : World) → collecting w b (λ _ _. ⊥) a w' → CollectDoes w b a w'
 collect_refuses w b a w' (inl h) = inl h
 collect_refuses w b a w' (inr (x, inl h)) = inr (x, inl h)
@@ -79,20 +60,13 @@ collect_refuses w b a w' (inr (x, inr (y, inr h))) = absurd h.1
 pub round_left : (t : Table) (i : ℕ) → i < length t.beds → (record_of t i).phase ≡ Waiting → (record_of t i).round < round_count
 round_left t i low waits = bounded t i _ _ low (λ s. s.waits waits)
 
--- and room in its queue for one batch more
-pub queue_left : (t : Table) (i k : ℕ) → i < length t.beds → (record_of t i).phase ≡ Waiting → k ≤ batch_tickets → (record_of t i).queue.len + k ≤ queue_tickets
-queue_left t i k low waits few = bounded t i _ _ low (λ s. omega (arith, s.queue_len, s.waits waits, few))
-
 pub collected_sound : (n : ℕ) (ts : List Ticket) (r r' : BedRecord) → CollectsBatch ts r r' → r.round < round_count → length ts ≤ batch_tickets → BedSound n r → BedSound n r'
 collected_sound n ts r r' h left few s =
     let round : r'.round ≡ r.round + 1 = ap (λ (x : Bed). x.round) h.bed in
     record {
-      set_room = h.set_room ∙ s.set_room;
-      set_len = omega (arith, h.set_len, s.set_len);
       set =
           subst (Sound n set_tickets) (sym (ap (λ (x : Bed). x.waiting) h.bed))
           (edit_laws.passing_sound n set_tickets (λ t. not (known t (append (queued_in r.queue) ts))) (waiting_in r.waiting) s.set);
-      queue_room = h.queue_room ∙ s.queue_room;
       queue_len = omega (arith, h.queue_len, s.queue_len, round, few);
       round = omega (arith, round, left);
       waits = λ e. absurd (idle_waits (sym (ap (λ (x : Bed). x.phase) h.bed) ∙ e));

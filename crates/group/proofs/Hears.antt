@@ -1,5 +1,5 @@
 -- What a hear comes to, ticket by ticket, in the record of a bed.
-use Rattle.std.proofs.Common.{◌≡◌, ℕ, ◌+◌, ◌<◌, ◌≤◌, max, cond, ltb, List, map, length, take, set, Ok, Err, sym, refl, ap, ◌∙◌, subst, inl, inr, arith, length-take-le}
+use Rattle.std.proofs.Common.{◌≡◌, ℕ, ◌+◌, ◌<◌, ◌≤◌, max, cond, ltb, List, map, length, take, set, Ok, Err, sym, refl, ap, ◌∙◌, subst, inl, inr, arith}
 use Rattle.std.proofs.lemmas.Bool.{cases_Bool, cases_lt, cond-true, cond-false, lt-ltb, le-ltb}
 use Rattle.codec.specs.Ticket.{InRange}
 use Rattle.codec.specs.TicketList.{Each, Sound}
@@ -26,29 +26,25 @@ use Rattle.group.proofs.Tables.{table_size, table_bed, table_changed, runs, Admi
 -- one ticket, in all cases at once
 pub record Step (t : Ticket) (h : Heard) (r : BedRecord) (h' : Heard) (r' : BedRecord) : Type 0 where
   pub hearing : hearing_of r' h' ≡ hear_one (queued_in r.queue) (hearing_of r h) t
-  pub len : r'.waiting.len ≤ set_tickets
-  pub room : length r'.waiting.tickets ≡ length r.waiting.tickets
   pub count : h'.taken + h'.full ≤ h.taken + h.full + 1
   pub rest : r' ≡ with_waiting r r'.waiting
 
-pub step : (t : Ticket) (h : Heard) (r : BedRecord) (h' : Heard) (r' : BedRecord) → HearsOne t h r h' r' → r.waiting.len ≤ set_tickets → set_tickets ≤ length r.waiting.tickets → Step t h r h' r'
-step t h r h' r' one l room =
+pub step : (t : Ticket) (h : Heard) (r : BedRecord) (h' : Heard) (r' : BedRecord) → HearsOne t h r h' r' → Step t h r h' r'
+step t h r h' r' one =
     elim (cases_Bool (record_knows r t)) [
       | inl k ↦
           let p = one.known k in
           subst (λ x. Step t h r x r') (sym p.0)
           (subst (λ x. Step t h r h x) (sym p.1)
-          (record { hearing = sym (cond-true _ _ _ k); len = l; room = refl; count = omega arith; rest = refl }))
+          (record { hearing = sym (cond-true _ _ _ k); count = omega arith; rest = refl }))
       | inr k ↦
-          elim (cases_lt r.waiting.len set_tickets) [
+          elim (cases_lt (length (waiting_in r.waiting)) set_tickets) [
             | inr f ↦
                 let p = one.full k f in
                 subst (λ x. Step t h r x r') (sym p.0)
                 (subst (λ x. Step t h r (record { taken = h.taken; full = h.full + 1 }) x) (sym p.1)
                 (record {
-                  hearing = sym (cond-false _ _ _ k ∙ cond-false _ _ _ (le-ltb (length (waiting_in r.waiting)) set_tickets (omega (arith, len))));
-                  len = l;
-                  room = refl;
+                  hearing = sym (cond-false _ _ _ k ∙ cond-false _ _ _ (le-ltb (length (waiting_in r.waiting)) set_tickets f));
                   count = omega arith;
                   rest = refl;
                 }))
@@ -58,17 +54,12 @@ step t h r h' r' one l room =
                 (record {
                   hearing =
                       ap (λ s. record { set = s; taken = h.taken + 1; full = h.full }) p.1
-                      ∙ sym (cond-false _ _ _ k ∙ cond-true _ _ _ (lt-ltb (length (waiting_in r.waiting)) set_tickets (omega (arith, len))));
-                  len = omega (arith, p.2);
-                  room = p.3;
+                      ∙ sym (cond-false _ _ _ k ∙ cond-true _ _ _ (lt-ltb (length (waiting_in r.waiting)) set_tickets f));
                   count = omega arith;
-                  rest = p.4;
+                  rest = p.2;
                 })
           ]
     ]
-  where
-    len : length (waiting_in r.waiting) ≡ r.waiting.len
-    len = length-take-le r.waiting.len r.waiting.tickets (omega arith)
 
 -- the round that is remembered
 pub later : (own heard round : ℕ) → own < round → heard < round → round ≡ cond (ltb own round) (max heard round) heard
@@ -87,10 +78,7 @@ pub heard_sound : (n k : ℕ) (ts : List Ticket) (r r₁ : BedRecord) (h : Heard
 heard_sound n k ts r r₁ h r₂ e all ranged s =
     subst (BedSound n) (sym (all.rest ∙ ap (λ (x : BedRecord). with_waiting x r₂.waiting) e))
     (record {
-      set_room = all.room ∙ ap (λ (x : BedRecord). length x.waiting.tickets) e ∙ s.set_room;
-      set_len = all.len;
       set = subst (Sound n set_tickets) (sym (ap (λ (x : Hearing). x.set) all.hearing ∙ ap (λ (x : BedRecord). (hear_all (queued_in x.queue) (unheard (waiting_in x.waiting)) ts).set) e)) (hear_laws.sound n (queued_in r.queue) (waiting_in r.waiting) ts ranged s.set);
-      queue_room = s.queue_room;
       queue_len = s.queue_len;
       round = s.round;
       waits = s.waits;

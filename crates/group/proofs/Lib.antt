@@ -14,7 +14,6 @@ pub mod Delivery
 pub mod Besides
 pub mod Whole
 pub mod Lives
-pub mod News
 pub mod StorySteps
 pub mod Stories
 pub mod Determined

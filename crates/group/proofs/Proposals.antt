@@ -1,5 +1,5 @@
 -- What a propose comes to before it keeps anything.
-use Rattle.std.proofs.Common.{◌≡◌, ℕ, ◌<◌, ◌≤◌, ◌⊎◌, List, length, take, Ok, Err, Result, sym, refl, ap, ◌∙◌, subst, inl, inr, arith}
+use Rattle.std.proofs.Common.{◌≡◌, ℕ, ◌<◌, ◌⊎◌, List, length, take, Ok, Err, Result, sym, refl, ap, ◌∙◌, subst, inl, inr, arith}
 use Rattle.std.proofs.ByRecursion.{All-get_or}
 use Rattle.codec.specs.Limits.{batch_tickets}
 use Rattle.codec.specs.TicketList.{Sound}
@@ -10,12 +10,10 @@ use Rattle.codec.specs.declared.ticket.Ticket.{Ticket}
 use Rattle.codec.specs.declared.value.Value.{Value}
 use Rattle.codec.proofs.ListEdits.{edit_laws}
 use Rattle.memory.specs.Meaning.{Slots}
-use Rattle.decision.specs.Limits.{round_count}
 use Rattle.decision.specs.Meaning.{Board}
 use Rattle.group.specs.Limits.{set_tickets}
-use Rattle.group.specs.World.{Bed, World, bed}
-use Rattle.group.specs.Outcome.{Answer, on_running, row}
-use Rattle.group.specs.Calls.{proposing, NoReason}
+use Rattle.group.specs.World.{Bed, bed}
+use Rattle.group.specs.Calls.{proposing}
 use Rattle.group.specs.Admission.{admitted}
 use Rattle.group.specs.Record.{bed_of, BedSound, waiting_in}
 use Rattle.group.specs.Table.{world_of, no_record, record_of, admission}
@@ -26,8 +24,8 @@ use Rattle.group.specs.declared.bed.Phase.TheVariants.{Off, Idle, Waiting}
 use Rattle.group.specs.declared.refusal.Refusal.{Refusal}
 use Rattle.group.specs.declared.refusal.Refusal.TheVariants as rf
 use Rattle.group.specs.declared.table.Table.{Table}
-use Rattle.group.proofs.Replays.{idle_runs, waiting_runs, idle_waits}
-use Rattle.group.proofs.Tables.{table_bed, fits, unsound, bounded, no_bed, is_off_lem, runs, admit_refuses, admit_accepts}
+use Rattle.group.proofs.Replays.{waiting_runs}
+use Rattle.group.proofs.Tables.{table_bed, fits, unsound, no_bed, is_off_lem, runs, admit_refuses, admit_accepts}
 
 -- the two events that propose
 abbrev pub Proposes : Event → Type 0
@@ -78,29 +76,6 @@ module _ (t : Table) (kept : Slots) (board : Board) (b : ℕ) where
                   (inl (ap (λ (x : Bed). x.phase) (shows p.0) ∙ o.0, (refl, refl))))
             ]
       ]
-
-  -- past the phase, for an idle bed
-  pub idle_rows : {Rest : Type 0} (i : ℕ) (a : Answer) (w' : World) → IdleAt t b i → Rest → on_running (world_of t kept board) b (row (world_of t kept board) ((bed (world_of t kept board) b).phase ≡ Waiting) rf.Waiting (λ _ _. Rest)) a w'
-  idle_rows i a w' on h =
-      runs t kept board b a w' on.low (λ z. idle_runs (sym on.idle ∙ z))
-      (inr ((λ z. idle_waits (sym (ap (λ (x : Bed). x.phase) (shows on.low) ∙ on.idle) ∙ z)), h))
-
-  pub last_round : (i : ℕ) → IdleAt t b i → round_count ≤ (record_of t i).round → proposing (world_of t kept board) b (λ _ _. ⊥) (Err rf.LastRound) (world_of t kept board)
-  last_round i on l =
-      idle_rows i (Err rf.LastRound) (world_of t kept board) on
-      (inl (omega (arith, l, ap (λ (x : Bed). x.round) (shows on.low), ap (λ k. (record_of t k).round) on.place), (refl, refl)))
-
-  pub no_reason : (i : ℕ) → IdleAt t b i → (record_of t i).round < round_count → NoReason (bed_of (record_of t i)) → proposing (world_of t kept board) b (λ _ _. ⊥) (Err rf.Nothing) (world_of t kept board)
-  no_reason i on l none =
-      idle_rows i (Err rf.Nothing) (world_of t kept board) on
-      (inr (
-        (λ k. omega (arith, l, k, ap (λ (x : Bed). x.round) (shows on.low), ap (λ k. (record_of t k).round) on.place)),
-        inl (subst NoReason (sym (shows on.low ∙ ap (λ k. bed_of (record_of t k)) (sym on.place))) none, (refl, refl)),
-      ))
-
--- a set fits its places
-pub set_fits : (t : Table) (i : ℕ) → i < length t.beds → (record_of t i).waiting.len ≤ length (record_of t i).waiting.tickets
-set_fits t i low = bounded t i _ _ low (λ s. omega (arith, s.set_len, s.set_room))
 
 -- the first of a sound set are a batch
 pub batch_has_form : (t : Table) (b i : ℕ) → IdleAt t b i → (ts : List Ticket) (r : Result Value WriteRefusal) (e : WriteRefusal) → ts ≡ take batch_tickets (waiting_in (record_of t i).waiting) → BatchValue t.size.count ts r → r ≡ Err e → ⊥

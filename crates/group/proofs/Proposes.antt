@@ -2,7 +2,7 @@
 use Rattle.std.proofs.Common.{◌≡◌, ℕ, List, length, get_or, set, Some, Ok, Err, Result, sym, refl, ap, ◌∙◌, subst, inl, inr, arith}
 use Rattle.codec.specs.Value.{value_bytes}
 use Rattle.codec.proofs.Values.{value_some, value_most}
-use Rattle.memory.specs.Meaning.{Slots, Within, Keeps, Tears}
+use Rattle.memory.specs.Meaning.{Slots, Within, Keeps}
 use Rattle.memory.specs.declared.refusal.MemoryRefusal.{MemoryRefusal}
 use Rattle.memory.specs.declared.refusal.MemoryRefusal.TheVariants as mr
 use Rattle.decision.specs.Meaning.{Board, Puts}
@@ -46,13 +46,13 @@ module _ (t : Table) (m : Slots) (s : Board) (b : ℕ) (p : Proposal) (on : Prop
   shows : bed (world_of t m s) b ≡ bed_of (record_of t b)
   shows = table_bed t b no_record on.low
 
-  round_is : (bed (world_of t m s) b).round ≡ p.round
+  round_is : (bed (world_of t m s) b).round ≡ p.turn.round
   round_is = ap (λ (x : Bed). x.round) shows ∙ sym on.round
 
   batch_is : value_bytes p.batch ≡ own_batch (bed (world_of t m s) b)
   batch_is = on.batch ∙ ap own_batch (sym shows)
 
-  within : Within b p.round (length (value_bytes p.batch))
+  within : Within b p.turn.round (length (value_bytes p.batch))
   within = record {
     place = record { bed_in = omega (arith, on.low, t.size.most); slot_in = omega (arith, on.left, on.round) };
     some = value_some p.batch;
@@ -76,9 +76,9 @@ module _ (t : Table) (m : Slots) (s : Board) (b : ℕ) (p : Proposal) (on : Prop
     other : HoldsOther (world_of t m s) b
     same : m' ≡ m
 
-  refused : (a : Result (Unit {0}) MemoryRefusal) (e : MemoryRefusal) (m' : Slots) → Keeps m b p.round (value_bytes p.batch) a m' → a ≡ Err e → Refused a e m'
+  refused : (a : Result (Unit {0}) MemoryRefusal) (e : MemoryRefusal) (m' : Slots) → Keeps m b p.turn.round (value_bytes p.batch) a m' → a ≡ Err e → Refused a e m'
   refused a e m' k f =
-      elim (cases_option (m b p.round)) [
+      elim (cases_option (m b p.turn.round)) [
         | inl z ↦ absurd (ok_err a tt e ((k.inside within).fresh z) f)
         | inr y ↦
             let old : List ℕ = y.0 in
@@ -87,29 +87,29 @@ module _ (t : Table) (m : Slots) (s : Board) (b : ℕ) (p : Proposal) (on : Prop
               differs = same_err a e mr.Differs f ((k.inside within).differs old y.1 d);
               other = record { old = old; held = ap (m b) round_is ∙ y.1; differs = λ x. d (x ∙ sym batch_is) };
               same = same_slots m m' (λ c j.
-                  elim (cases_place b p.round c j) [
-                    | inl q ↦ at_place m' b p.round c j q ∙ k.stays old y.1 ∙ sym y.1 ∙ sym (at_place m b p.round c j q)
+                  elim (cases_place b p.turn.round c j) [
+                    | inl q ↦ at_place m' b p.turn.round c j q ∙ k.stays old y.1 ∙ sym y.1 ∙ sym (at_place m b p.turn.round c j q)
                     | inr q ↦ k.elsewhere c j q
                   ]);
             }
       ]
 
-  pub propose_differs : (a : Result (Unit {0}) MemoryRefusal) (e : MemoryRefusal) (m' : Slots) → Keeps m b p.round (value_bytes p.batch) a m' → a ≡ Err e → ProposeDoes (world_of t m s) b (Err (rf.Memory e)) (world_of t m' s)
+  pub propose_differs : (a : Result (Unit {0}) MemoryRefusal) (e : MemoryRefusal) (m' : Slots) → Keeps m b p.turn.round (value_bytes p.batch) a m' → a ≡ Err e → ProposeDoes (world_of t m s) b (Err (rf.Memory e)) (world_of t m' s)
   propose_differs a e m' k f =
       let r = refused a e m' k f in
       rows (Err (rf.Memory e)) (world_of t m' s) (inl (r.other, (ap (λ x. Err (rf.Memory x)) r.differs, ap (λ x. world_of t x s) r.same)))
 
   pub propose_done : (a : Result (Unit {0}) MemoryRefusal) (m' : Slots) (o : Result PutAnswer DecisionRefusal) (s' : Board) (t' : Table) →
-      Keeps m b p.round (value_bytes p.batch) a m' → a ≡ Ok tt → Puts s b p.round (value_bytes p.batch) o s' →
-      beds_of t' ≡ set (beds_of t) p.index (waiting_now (get_or (beds_of t) p.index off_bed)) → ProposeDoes (world_of t m s) b (Ok Done) (world_of t' m' s')
+      Keeps m b p.turn.round (value_bytes p.batch) a m' → a ≡ Ok tt → Puts s b p.turn.round (value_bytes p.batch) o s' →
+      beds_of t' ≡ set (beds_of t) p.turn.index (waiting_now (get_or (beds_of t) p.turn.index off_bed)) → ProposeDoes (world_of t m s) b (Ok Done) (world_of t' m' s')
   propose_done a m' o s' t' k ok put beds =
       rows (Ok Done) (world_of t' m' s')
       (inr (
         (λ h. free h),
         record {
-          keeps = subst (λ r. Keeps m b r (own_batch (bed (world_of t m s) b)) (Ok tt) m') (sym round_is) (subst (λ v. Keeps m b p.round v (Ok tt) m') batch_is (subst (λ x. Keeps m b p.round (value_bytes p.batch) x m') ok k));
+          keeps = subst (λ r. Keeps m b r (own_batch (bed (world_of t m s) b)) (Ok tt) m') (sym round_is) (subst (λ v. Keeps m b p.turn.round v (Ok tt) m') batch_is (subst (λ x. Keeps m b p.turn.round (value_bytes p.batch) x m') ok k));
           put_answer = o;
-          puts = subst (λ r. Puts s b r (own_batch (bed (world_of t m s) b)) o s') (sym round_is) (subst (λ v. Puts s b p.round v o s') batch_is put);
+          puts = subst (λ r. Puts s b r (own_batch (bed (world_of t m s) b)) o s') (sym round_is) (subst (λ v. Puts s b p.turn.round v o s') batch_is put);
           beds = beds ∙ ap (λ i. set (beds_of t) i (waiting_now (get_or (beds_of t) i off_bed))) on.index;
           answer = refl;
         },
@@ -117,14 +117,3 @@ module _ (t : Table) (m : Slots) (s : Board) (b : ℕ) (p : Proposal) (on : Prop
     where
       free : HoldsOther (world_of t m s) b → ⊥
       free h = ok_err a tt mr.Differs ok ((k.inside within).differs h.old (sym (ap (m b) round_is) ∙ h.held) (λ x. h.differs (x ∙ batch_is)))
-
-  -- a torn keep, and the bed is off
-  pub trip_done : (named «at» : ℕ) (m' : Slots) (t' : Table) → Tears named m b p.round (value_bytes p.batch) «at» m' → beds_of t' ≡ set (beds_of t) p.index off_bed → TripDoes named (world_of t m s) b «at» (Ok Done) (world_of t' m' s)
-  trip_done named «at» m' t' k beds =
-      rows (Ok Done) (world_of t' m' s)
-      (record {
-        tears = subst (λ r. Tears named m b r (own_batch (bed (world_of t m s) b)) «at» m') (sym round_is) (subst (λ v. Tears named m b p.round v «at» m') batch_is k);
-        board = refl;
-        beds = beds ∙ ap (λ i. set (beds_of t) i off_bed) on.index;
-        answer = refl;
-      })

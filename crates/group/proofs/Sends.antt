@@ -1,30 +1,29 @@
 -- What a send comes to, by what is written.
-use Rattle.std.proofs.Common.{◌≡◌, ℕ, ◌<◌, ◌≤◌, List, ◌++◌, length, take, drop, Ok, Err, Result, sym, refl, ap, ◌∙◌, subst, inl, inr, arith, length-take-le, take_at, drop_at}
-use Rattle.std.proofs.lemmas.List.{length-append, length-drop}
-use Rattle.codec.specs.Limits.{packet_tickets, max_packet_bytes}
-use Rattle.codec.specs.TicketList.{Sound}
+use Rattle.std.proofs.Common.{◌≡◌, ℕ, ◌<◌, ◌≤◌, List, ◌++◌, length, take, drop, Ok, Err, Result, sym, refl, ap, ◌∙◌, subst, inl, inr, arith, take_at}
+use Rattle.codec.specs.Limits.{max_packet_bytes}
+use Rattle.codec.specs.Limits.{packet_tickets}
 use Rattle.codec.specs.Packet.{packet_bytes, SoundPacket}
+use Rattle.codec.specs.TicketList.{Sound}
 use Rattle.codec.specs.Write.{Wrote}
 use Rattle.codec.specs.declared.refusal.WriteRefusal.{WriteRefusal}
 use Rattle.codec.specs.declared.refusal.WriteRefusal.TheVariants as wr
+use Rattle.group.specs.declared.refusal.Refusal.TheVariants as rf
 use Rattle.codec.specs.declared.ticket.Ticket.{Ticket}
 use Rattle.memory.specs.Meaning.{Slots}
 use Rattle.decision.specs.Meaning.{Board}
 use Rattle.group.specs.World.{Bed, bed, size}
-use Rattle.group.specs.Calls.{SendDoes, own_packet, sent_bytes}
-use Rattle.group.specs.Record.{bed_of, waiting_in}
+use Rattle.group.specs.Calls.{SendDoes, own_packet, sent_answer, sent_bytes, sent_packet}
+use Rattle.std.proofs.ByRecursion.{All-get_or}
+use Rattle.group.specs.Record.{BedSound, bed_of, waiting_in}
 use Rattle.group.specs.Table.{world_of, no_record, record_of}
 use Rattle.group.specs.declared.call.Reply.TheVariants.{Sent}
-use Rattle.group.specs.declared.refusal.Refusal.TheVariants as rf
 use Rattle.group.specs.declared.bed.Phase.TheVariants.{Off}
 use Rattle.group.specs.declared.call.SentPacket.{SentPacket}
 use Rattle.group.specs.declared.refusal.Refusal.{Refusal}
 use Rattle.group.specs.declared.table.Table.{Table}
-use Rattle.std.proofs.ByRecursion.{All-get_or}
-use Rattle.group.specs.Record.{BedSound}
 use Rattle.codec.proofs.FormLaws.{packet_laws}
 use Rattle.group.proofs.Moves.{not_le}
-use Rattle.group.proofs.Tables.{table_size, table_bed, in_table, bounded, runs, unsound, Admitted}
+use Rattle.group.proofs.Tables.{table_size, table_bed, in_table, unsound, bounded, runs, Admitted}
 
 module _ (t : Table) (kept : Slots) (board : Board) (b i : ℕ) (on : Admitted t b i) (ts : List Ticket) (same : ts ≡ waiting_in (record_of t i).waiting) where
   shows : bed (world_of t kept board) b ≡ bed_of (record_of t i)
@@ -33,45 +32,31 @@ module _ (t : Table) (kept : Slots) (board : Board) (b i : ℕ) (on : Admitted t
   pub own_packet_lem : own_packet (world_of t kept board) b ≡ packet_bytes b (record_of t i).round ts
   own_packet_lem = ap (λ (x : Bed). packet_bytes b x.round x.waiting) shows ∙ ap (packet_bytes b (record_of t i).round) (sym same)
 
-  pub send_no_room : (room : ℕ) → room < length (packet_bytes b (record_of t i).round ts) → SendDoes (world_of t kept board) b room (Err rf.NoRoom) (world_of t kept board)
-  send_no_room room l = runs t kept board b _ _ on.low on.on (inl (subst (λ (p : List ℕ). room < length p) (sym own_packet_lem) l, (refl, refl)))
-
   pub send_fills : (was buffer : List ℕ) (len : ℕ) → len ≡ length (packet_bytes b (record_of t i).round ts) → len ≤ length was → buffer ≡ packet_bytes b (record_of t i).round ts ++ drop len was →
-      SendDoes (world_of t kept board) b (length was) (Ok (Sent (record { bytes = buffer; len = len }))) (world_of t kept board)
+      SendDoes (world_of t kept board) b (length was) (Ok (Sent (sent_packet (take len buffer)))) (world_of t kept board)
   send_fills was buffer len e l f =
       runs t kept board b _ _ on.low on.on
       (inr (
         (λ k. omega (arith, ap (λ (p : List ℕ). length p) own_packet_lem, e, l, k)),
         record {
-          packet = record { bytes = buffer; len = len };
+          packet = sent_packet (take len buffer);
           bytes = ap (take len) f ∙ take_at (packet_bytes b (record_of t i).round ts) (drop len was) len (sym e) ∙ sym own_packet_lem;
           answer = refl;
           after = refl;
         },
       ))
 
--- a bed's packet always has a form
-pub send_has_form : (t : Table) (b i : ℕ) → Admitted t b i → (ts : List Ticket) → ts ≡ waiting_in (record_of t i).waiting → (SoundPacket t.size.count b (record_of t i).round ts → ⊥) → ⊥
-send_has_form t b i on ts same out =
-    unsound t (λ all.
-    let s = All-get_or (BedSound t.size.count) t.beds i no_record on.inside all in
-    out (record { bed_in = on.low; round_in = s.round; sound = subst (Sound t.size.count packet_tickets) (sym same) s.set }))
-
--- what a write leaves of the buffer
-pub buffer_after : (packet was buffer : List ℕ) (len : ℕ) → len ≡ length packet → len ≤ length was → buffer ≡ packet ++ drop len was → (len ≤ length was) × (length buffer ≡ length was) × (drop len buffer ≡ drop len was)
-buffer_after packet was buffer len e l f = (
-  l,
-  ap length f ∙ length-append packet (drop len was) ∙ omega (arith, length-drop len was),
-  ap (drop len) f ∙ drop_at packet (drop len was) len (sym e),
-)
-
--- where there is a form, only the room can be missing
-pub only_room : (HasForm : Type 0) (bytes was buffer : List ℕ) (r : Result ℕ WriteRefusal) (e : WriteRefusal) → Wrote HasForm bytes was r buffer → r ≡ Err e → ((HasForm → ⊥) → ⊥) → (length was < length bytes) × (buffer ≡ was)
-only_room HasForm bytes was buffer r e h same form = go e (subst (λ o. Wrote HasForm bytes was o buffer) same h)
-  where
-    go : (e : WriteRefusal) → Wrote HasForm bytes was (Err e) buffer → (length was < length bytes) × (buffer ≡ was)
-    go wr.NoForm k = absurd (form k.0)
-    go wr.NoRoom k = (k.1, k.2)
+  -- what a write of the packet comes to: it has a form, so only the room can be missing
+  pub send_ends : (was buffer : List ℕ) (r : Result ℕ WriteRefusal) (a : Result ℕ Refusal) → Wrote (SoundPacket t.size.count b (record_of t i).round ts) (packet_bytes b (record_of t i).round ts) was r buffer →
+      ((len : ℕ) → r ≡ Ok len → a ≡ Ok len) → ((e : WriteRefusal) → r ≡ Err e → a ≡ Err rf.NoRoom) → SendDoes (world_of t kept board) b (length was) (sent_answer a buffer) (world_of t kept board)
+  send_ends was buffer (Ok len) a w ok err = subst (λ x. SendDoes (world_of t kept board) b (length was) (sent_answer x buffer) (world_of t kept board)) (sym (ok len refl)) (send_fills was buffer len w.1 w.2 w.3)
+  send_ends was buffer (Err wr.NoForm) a w ok err =
+      absurd (unsound t (λ all.
+      let s = All-get_or (BedSound t.size.count) t.beds i no_record on.inside all in
+      w.0 (record { bed_in = on.low; round_in = s.round; sound = subst (Sound t.size.count packet_tickets) (sym same) s.set })))
+  send_ends was buffer (Err wr.NoRoom) a w ok err =
+      subst (λ x. SendDoes (world_of t kept board) b (length was) (sent_answer x buffer) (world_of t kept board)) (sym (err wr.NoRoom refl))
+      (runs t kept board b _ _ on.low on.on (inl (subst (λ (v : List ℕ). length was < length v) (sym own_packet_lem) w.1, (refl, refl))))
 
 -- ---- more room than any packet needs
 
@@ -95,19 +80,14 @@ module _ (t : Table) (kept : Slots) (board : Board) (b room : ℕ) where
     in_group : size (world_of t kept board) ≤ b → ⊥
     runs_on : (bed (world_of t kept board) b).phase ≡ Off → ⊥
     bytes : sent_bytes p ≡ own_packet (world_of t kept board) b
-    long : length (own_packet (world_of t kept board) b) ≡ p.len
+    long : length (own_packet (world_of t kept board) b) ≡ length (sent_bytes p)
 
-  written : (p : SentPacket) → p.len ≤ length p.bytes → SendDoes (world_of t kept board) b max_packet_bytes (Ok (Sent p)) (world_of t kept board) → Written p
-  written p l (inl h) = let f = h.1.0 in let z : ◌≡◌ {A = ℕ} 0 1 = cc in absurd (omega arith)
-  written p l (inr (x, inl h)) = let f = h.1.0 in let z : ◌≡◌ {A = ℕ} 0 1 = cc in absurd (omega arith)
-  written p l (inr (x, inr (y, inl h))) = let f = h.1.0 in let z : ◌≡◌ {A = ℕ} 0 1 = cc in absurd (omega arith)
-  written p l (inr (x, inr (y, inr h))) =
+  written : (p : SentPacket) → SendDoes (world_of t kept board) b max_packet_bytes (Ok (Sent p)) (world_of t kept board) → Written p
+  written p (inl h) = let f = h.1.0 in let z : ◌≡◌ {A = ℕ} 0 1 = cc in absurd (omega arith)
+  written p (inr (x, inl h)) = let f = h.1.0 in let z : ◌≡◌ {A = ℕ} 0 1 = cc in absurd (omega arith)
+  written p (inr (x, inr (y, inl h))) = let f = h.1.0 in let z : ◌≡◌ {A = ℕ} 0 1 = cc in absurd (omega arith)
+  written p (inr (x, inr (y, inr h))) =
       let f = h.1.answer in
       let same : p ≡ h.1.packet = cc in
       let bytes = ap sent_bytes same ∙ h.1.bytes in
-      record { in_group = x; runs_on = y; bytes = bytes; long = ap (λ (v : List ℕ). length v) (sym bytes) ∙ length-take-le p.len p.bytes l }
-
-  pub send_fits : (p : SentPacket) → p.len ≤ length p.bytes → p.len ≤ room → SendDoes (world_of t kept board) b max_packet_bytes (Ok (Sent p)) (world_of t kept board) → SendDoes (world_of t kept board) b room (Ok (Sent p)) (world_of t kept board)
-  send_fits p l fits h =
-      let w = written p l h in
-      inr (w.in_group, inr (w.runs_on, inr ((λ k. omega (arith, k, w.long, fits)), record { packet = p; bytes = w.bytes; answer = refl; after = refl })))
+      record { in_group = x; runs_on = y; bytes = bytes; long = ap (λ (v : List ℕ). length v) (sym bytes) }

@@ -1,5 +1,5 @@
 -- What one round of a start comes to.
-use Rattle.std.proofs.Common.{◌≡◌, ℕ, suc, ◌<◌, ◌≤◌, List, [], length, set, Some, None, Ok, Err, Option, Result, sym, refl, ap, ◌∙◌, subst, inl, inr, add-one, arith, Bor}
+use Rattle.std.proofs.Common.{◌≡◌, ℕ, suc, ◌<◌, ◌≤◌, List, [], length, Some, None, Ok, Err, Option, Result, sym, refl, ap, ◌∙◌, subst, inl, inr, add-one, arith, Bor}
 use Rattle.codec.specs.Limits.{max_beds, batch_tickets}
 use Rattle.codec.specs.TicketList.{Sound}
 use Rattle.codec.specs.Batch.{IsBatch, batch_of}
@@ -22,21 +22,19 @@ use Rattle.group.specs.Outcome.{Answer, faulty}
 use Rattle.group.specs.Admission.{admitted}
 use Rattle.group.specs.Replay.{Replay, Proposed, started}
 use Rattle.group.specs.Calls.{collected, starting, StartDoes}
-use Rattle.group.specs.Table.{world_of, beds_of, no_record, record_of, admission}
+use Rattle.group.specs.Table.{world_of, no_record, record_of}
 use Rattle.group.specs.Record.{bed_of, BedSound, queued_in, waiting_in, CollectsBatch}
 use Rattle.group.specs.Start.{StartSound, From}
 use Rattle.group.specs.declared.bed.BedRecord.{BedRecord}
 use Rattle.group.specs.declared.bed.Event.TheVariants as ev
 use Rattle.group.specs.declared.bed.Phase.{Phase}
 use Rattle.group.specs.declared.bed.Phase.TheVariants.{Off, Idle, Waiting}
-use Rattle.group.specs.declared.call.Reply.TheVariants.{Done}
 use Rattle.group.specs.declared.queue.Queue.{Queue}
-use Rattle.group.specs.declared.waiting_set.WaitingSet.{WaitingSet}
 use Rattle.group.specs.declared.table.Table.{Table}
 use Rattle.group.specs.declared.refusal.Refusal.TheVariants as rf
 use Rattle.group.specs.declared.refusal.Refusal.{Refusal}
 use Rattle.group.proofs.Replays.{idle_runs, waiting_runs, idle_waits}
-use Rattle.group.proofs.Tables.{table_size, table_bed, admit_refuses, admit_accepts}
+use Rattle.group.proofs.Tables.{table_size, table_bed}
 use Rattle.group.proofs.Options.{cases_option, ok_err, same_ok}
 
 -- what a read lends is what the slot holds
@@ -100,14 +98,10 @@ module _ (n : ℕ) (slots : ℕ → Option (List ℕ)) (b : ℕ) (r : BedRecord)
 
       pub next_sound : length ts ≤ batch_tickets → StartSound r'
       next_sound few =
-          let zero : r'.waiting.len ≡ 0 = omega (arith, h.set_len, sound.set_len) in
           record {
             bed =
                 h.bed ∙ ap (λ (x : Bed). collected x ts) sound.bed ∙ ap (λ k. started Idle k (append (queued_in r.queue) ts)) (add-one r.round ∙ sym next_round)
                 ∙ ap (started Idle r'.round) (sym queue_is);
-            set_room = h.set_room ∙ sound.set_room;
-            set_len = zero;
-            queue_room = h.queue_room ∙ sound.queue_room;
             queue_len = omega (arith, h.queue_len, sound.queue_len, next_round, few);
             round = omega (arith, next_round, left);
           }
@@ -124,21 +118,6 @@ accepts Off p h = refl
 accepts Idle p h = let z : ◌≡◌ {A = ℕ} 0 1 = cc in absurd (omega arith)
 accepts Waiting p h = let z : ◌≡◌ {A = ℕ} 0 1 = cc in absurd (omega arith)
 
-pub admits_off : (t : Table) (b i : ℕ) (p : Phase) → Ok (i, p) ≡ admission t b ev.Start → (i ≡ b) × (b < t.size.count) × ((record_of t b).phase ≡ Off)
-admits_off t b i p h = let a = admit_accepts t b ev.Start i p h in (a.0, a.1, accepts (record_of t b).phase p a.2)
-
-pub start_refused : (t : Table) (kept : Slots) (board : Board) (b : ℕ) (e : Refusal) → Err e ≡ admission t b ev.Start → starting (world_of t kept board) b (λ _ _. ⊥) (Err e) (world_of t kept board)
-start_refused t kept board b e h =
-    elim (admit_refuses t b ev.Start e h) [
-      | inl p ↦ inl (omega (arith, table_size t, p.0), (ap Err p.1, refl))
-      | inr p ↦
-          let o = refuses (record_of t b).phase e p.1 in
-          inr (
-            (λ l. omega (arith, table_size t, p.0, l)),
-            inl ((λ z. o.0 (sym (ap (λ (x : Bed). x.phase) (table_bed t b no_record p.0)) ∙ z)), (ap Err o.1, refl)),
-          )
-    ]
-
 pub start_refuses : (w : World) (b : ℕ) (a : Answer) (w' : World) → starting w b (λ _ _. ⊥) a w' → StartDoes w b a w'
 start_refuses w b a w' (inl h) = inl h
 start_refuses w b a w' (inr (x, inl h)) = inr (x, inl h)
@@ -148,11 +127,8 @@ start_refuses w b a w' (inr (x, inr h)) = absurd h.1
 
 pub end_sound : (n : ℕ) (r r' : BedRecord) → StartSound r → r'.waiting ≡ r.waiting → r'.queue ≡ r.queue → r'.round ≡ r.round → (r'.phase ≡ Waiting → r.round < round_count) → BedSound n r'
 end_sound n r r' s w q k left = record {
-  set_room = ap (λ (x : WaitingSet). length x.tickets) w ∙ s.set_room;
-  set_len = omega (arith, ap (λ (x : WaitingSet). x.len) w, s.set_len);
   set = subst (Sound n set_tickets) (sym (ap waiting_in w ∙ ap (λ (x : Bed). x.waiting) s.bed)) (record { ranged = tt; rising = tt; apart = tt; few = omega arith });
-  queue_room = ap (λ (x : Queue). length x.tickets) q ∙ s.queue_room;
-  queue_len = omega (arith, ap (λ (x : Queue). x.len) q, s.queue_len, k);
+  queue_len = omega (arith, ap (λ (x : Queue). length (queued_in x)) q, s.queue_len, k);
   round = omega (arith, k, s.round);
   waits = λ e. omega (arith, k, left e);
 }
@@ -168,10 +144,3 @@ module _ (t : Table) (m : Slots) (s : Board) (b : ℕ) (low : b < t.size.count) 
 
   sized : (end : Result Bed Refusal) (s' : Board) → Replay t.size.count (m b) b 0 [] s end s' → Replay (size (world_of t m s)) (m b) b 0 [] s end s'
   sized end s' h = subst (λ n. Replay n (m b) b 0 [] s end s') (sym (table_size t)) h
-
-  pub start_fails : (e : Refusal) (s' : Board) → Replay t.size.count (m b) b 0 [] s (Err e) s' → StartDoes (world_of t m s) b (Err e) (world_of t m s')
-  start_fails e s' h = rows (Err e) (world_of t m s') (record { kept = refl; end = Err e; replay = sized (Err e) s' h; ends = (refl, refl) })
-
-  pub start_done : (x : Bed) (i : ℕ) (s' : Board) (t' : Table) → i ≡ b → Replay t.size.count (m b) b 0 [] s (Ok x) s' → beds_of t' ≡ set (beds_of t) i x → StartDoes (world_of t m s) b (Ok Done) (world_of t' m s')
-  start_done x i s' t' e h beds =
-      rows (Ok Done) (world_of t' m s') (record { kept = refl; end = Ok x; replay = sized (Ok x) s' h; ends = (refl, beds ∙ ap (λ k. set (beds_of t) k x) e) })

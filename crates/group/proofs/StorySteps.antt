@@ -1,6 +1,5 @@
 -- Steps that a group can take: for each call that is accepted, a world that may stand after it.
-use Rattle.std.proofs.Common.{◌≡◌, ℕ, ◌+◌, ◌-◌, ◌<◌, ◌≤◌, false, cond, ◌&&◌, eqb, List, [], ◌∷◌, ◌++◌, length, take, set, replicate, is_some, Some, None, Ok, Err, Option, Result, sym, refl, ap, ◌∙◌, subst, inl, inr, arith}
-use Rattle.std.proofs.lemmas.List.{length-append, length-replicate}
+use Rattle.std.proofs.Common.{◌≡◌, ℕ, ◌+◌, ◌<◌, ◌≤◌, false, cond, ◌&&◌, eqb, List, [], length, set, is_some, Some, None, Ok, Err, Option, Result, sym, refl, ap, ◌∙◌, subst, inl, inr, arith}
 use Rattle.std.proofs.lemmas.Bool.{cases_Bool, eqb-true, ne_eqb, and_parts, cond-true, cond-false, eq-eqb, and_from, both_ways}
 use Rattle.codec.specs.Limits.{max_beds, max_batch_bytes}
 use Rattle.codec.specs.Ticket.{InRange}
@@ -21,7 +20,7 @@ use Rattle.group.specs.Limits.{set_tickets}
 use Rattle.group.specs.World.{World, Bed, bed, size, off_bed, Running, changed}
 use Rattle.group.specs.Outcome.{Answer, Outcome, row}
 use Rattle.group.specs.Replay.{Replay, Proposed, started}
-use Rattle.group.specs.Calls.{StartDoes, ticket_of, with_set, knows, SubmitDoes, sent_bytes, own_packet, SendDoes, heard_by, counts_of, hearing, HearDoes, own_batch, NoReason, proposing, HoldsOther, waiting_now, Proposes, Trips, ProposeDoes, TripDoes, CollectDoes, Collected, collected}
+use Rattle.group.specs.Calls.{StartDoes, ticket_of, with_set, knows, SubmitDoes, sent_bytes, sent_packet, own_packet, SendDoes, heard_by, counts_of, hearing, HearDoes, own_batch, NoReason, proposing, HoldsOther, waiting_now, Proposes, Trips, ProposeDoes, TripDoes, CollectDoes, Collected, collected}
 use Rattle.group.specs.declared.bed.Phase.TheVariants.{Off, Idle, Waiting}
 use Rattle.group.specs.declared.call.Reply.TheVariants as rp
 use Rattle.group.specs.declared.call.SentPacket.{SentPacket}
@@ -100,19 +99,8 @@ puts_new s b r v within none =
     }
 
 -- bytes as a value
-take_front : (v rest : List ℕ) → take (length v) (v ++ rest) ≡ v
-take_front [] rest = refl
-take_front (x ∷ v) rest = ap (λ l. x ∷ l) (take_front v rest)
-
 abbrev pub value_of : (v : List ℕ) → 1 ≤ length v → length v ≤ max_batch_bytes → Value
-value_of v some most =
-    record {
-      bytes = v ++ replicate (max_batch_bytes - length v) 0;
-      len = length v;
-      room = length-append v (replicate (max_batch_bytes - length v) 0) ∙ ap (λ k. length v + k) (length-replicate (max_batch_bytes - length v) 0) ∙ omega arith;
-      some = some;
-      most = most;
-    }
+value_of v some most = record { bytes = record { items = v; spare = [] }; some = some; most = most }
 
 -- a decision more, for a proposal that stands
 abbrev pub with_decision : Board → ℕ → List ℕ → Board
@@ -124,7 +112,7 @@ polls_chosen s r c v some most left low stood none =
     record {
       outside = λ f. absurd (f left);
       answer = λ _. record {
-        decision = λ u e. (value_of v some most, (refl, take_front v _ ∙ same_some ((with_decision s r v).decision r) v u here e));
+        decision = λ u e. (value_of v some most, (refl, same_some ((with_decision s r v).decision r) v u here e));
         none = λ e. absurd (not_none ((with_decision s r v).decision r) v here e);
       };
       same_beds = refl;
@@ -146,7 +134,7 @@ polls_stands s r v some most left stood =
     record {
       outside = λ f. absurd (f left);
       answer = λ _. record {
-        decision = λ u e. (value_of v some most, (refl, take_front v _ ∙ same_some (s.decision r) v u stood e));
+        decision = λ u e. (value_of v some most, (refl, same_some (s.decision r) v u stood e));
         none = λ e. absurd (not_none (s.decision r) v stood e);
       };
       same_beds = refl;
@@ -216,15 +204,11 @@ submit_does w b number paths sheet low run ranged new room =
     inr ((λ l. omega arith), inr (run, inr ((λ f. f ranged), inr ((λ k. both_ways (knows (bed w b) (ticket_of b number paths sheet)) new k), inr ((λ l. omega arith), (refl, refl))))))
 
 -- a packet sent, and one heard
-take_whole : (v : List ℕ) → take (length v) v ≡ v
-take_whole [] = refl
-take_whole (x ∷ v) = ap (λ l. x ∷ l) (take_whole v)
-
 abbrev pub packet_out : World → ℕ → SentPacket
-packet_out w b = record { bytes = own_packet w b; len = length (own_packet w b) }
+packet_out w b = sent_packet (own_packet w b)
 
 pub out_bytes : (w : World) (b : ℕ) → sent_bytes (packet_out w b) ≡ own_packet w b
-out_bytes w b = take_whole (own_packet w b)
+out_bytes w b = refl
 
 pub send_does : (w : World) (b room : ℕ) → b < size w → Running w b → length (own_packet w b) ≤ room → SendDoes w b room (Ok (rp.Sent (packet_out w b))) w
 send_does w b room low run fits =

@@ -1,5 +1,5 @@
 -- What a submit comes to, by what the record of its bed does.
-use Rattle.std.proofs.Common.{◌≡◌, ℕ, ◌+◌, ◌<◌, map, length, take, set, Ok, Err, Result, sym, refl, ap, ◌∙◌, subst, inl, inr, arith}
+use Rattle.std.proofs.Common.{◌≡◌, ℕ, ◌+◌, ◌<◌, map, length, take, set, Ok, Result, sym, ap, ◌∙◌, subst, inl, inr, arith}
 use Rattle.std.proofs.lemmas.Bool.{cases_Bool, cases_lt, both_ways, or_parts}
 use Rattle.codec.specs.Chain.{map_ok}
 use Rattle.codec.specs.Ticket.{InRange}
@@ -18,34 +18,27 @@ use Rattle.group.specs.Table.{world_of, no_record, record_of}
 use Rattle.group.specs.declared.bed.BedRecord.{BedRecord}
 use Rattle.group.specs.declared.call.Reply.TheVariants.{Submitted}
 use Rattle.group.specs.declared.refusal.Refusal.{Refusal}
-use Rattle.group.specs.declared.refusal.Refusal.TheVariants as rf
 use Rattle.group.specs.declared.table.Table.{Table}
 use Rattle.group.proofs.Moves.{in_range_from}
-use Rattle.group.proofs.Tables.{table_size, table_bed, table_changed, table_unchanged, set-length, runs, Admitted}
+use Rattle.group.proofs.Tables.{table_size, table_bed, table_changed, table_unchanged, runs, Admitted}
 
 -- a ticket of bed b is in range for any group that has the bed
 pub ranged_for : (n : ℕ) (t : Ticket) → t.origin < n → InRange (t.origin + 1) t → InRange n t
 ranged_for n t low r = record { paths = r.paths; origin = low; least = r.least; number = r.number; sheet = r.sheet }
 
-ranged_own : (n : ℕ) (t : Ticket) → InRange n t → InRange (t.origin + 1) t
-ranged_own n t r = record { paths = r.paths; origin = omega arith; least = r.least; number = r.number; sheet = r.sheet }
-
 -- the record after a ticket was offered is sound
-pub take_sound : (n : ℕ) (t : Ticket) (r r' : BedRecord) (a : Result (Unit {0}) Refusal) → InRange n t → TakesIn t r a r' → length (waiting_in r.waiting) ≡ r.waiting.len → BedSound n r → BedSound n r'
-take_sound n t r r' a ranged h len s =
+pub take_sound : (n : ℕ) (t : Ticket) (r r' : BedRecord) (a : Result (Unit {0}) Refusal) → InRange n t → TakesIn t r a r' → BedSound n r → BedSound n r'
+take_sound n t r r' a ranged h s =
     elim (cases_Bool (record_knows r t)) [
       | inl k ↦ subst (BedSound n) (sym (h.known k).1) s
       | inr k ↦
-          elim (cases_lt r.waiting.len set_tickets) [
+          elim (cases_lt (length (waiting_in r.waiting)) set_tickets) [
             | inr l ↦ subst (BedSound n) (sym (h.full k l).1) s
             | inl l ↦
                 let p = h.takes k l in
-                subst (BedSound n) (sym p.4)
+                subst (BedSound n) (sym p.2)
                 (record {
-                  set_room = p.3 ∙ s.set_room;
-                  set_len = omega (arith, p.2);
                   set = subst (Sound n set_tickets) (sym p.1) (edit_laws.placed_sound n set_tickets t (waiting_in r.waiting) s.set ranged (or_parts (known t (waiting_in r.waiting)) (known t (queued_in r.queue)) k).0 (omega arith));
-                  queue_room = s.queue_room;
                   queue_len = s.queue_len;
                   round = s.round;
                   waits = s.waits;
@@ -54,9 +47,6 @@ take_sound n t r r' a ranged h len s =
     ]
 
 module _ (t : Table) (kept : Slots) (board : Board) (b number paths sheet i : ℕ) (on : Admitted t b i) where
-  pub submit_field : (InRange (b + 1) (ticket_of b number paths sheet) → ⊥) → SubmitDoes (world_of t kept board) b number paths sheet (Err rf.Field) (world_of t kept board)
-  submit_field out = runs t kept board b (Err rf.Field) (world_of t kept board) on.low on.on (inl ((λ r. out (ranged_own (size (world_of t kept board)) (ticket_of b number paths sheet) r)), (refl, refl)))
-
   takes : InRange (b + 1) (ticket_of b number paths sheet) → (a : Result (Unit {0}) Refusal) (r : BedRecord) → TakesIn (ticket_of b number paths sheet) (record_of t i) a r →
       SubmitDoes (world_of t kept board) b number paths sheet (map_ok (λ _. Submitted (ticket_of b number paths sheet)) a) (record { beds = map bed_of (take t.size.count (set t.beds i r)); kept = kept; board = board })
   takes ranged a r h =
@@ -64,7 +54,7 @@ module _ (t : Table) (kept : Slots) (board : Board) (b number paths sheet i : �
       let w : World = world_of t kept board in
       let own : BedRecord = record_of t i in
       let shows : bed w b ≡ bed_of own = table_bed t b no_record on.low ∙ ap (λ k. bed_of (record_of t k)) (sym on.place) in
-      let room : length (bed w b).waiting ≡ own.waiting.len = ap (λ (x : Bed). length x.waiting) shows ∙ set-length t i (subst (λ k. k < t.size.count) (sym on.place) on.low) in
+      let room : length (bed w b).waiting ≡ length (waiting_in own.waiting) = ap (λ (x : Bed). length x.waiting) shows in
       runs t kept board b _ _ on.low on.on
       (inr (
         (λ out. out (ranged_for (size w) job (subst (λ k. b < k) (sym (table_size t)) on.low) ranged)),
@@ -73,7 +63,7 @@ module _ (t : Table) (kept : Slots) (board : Board) (b number paths sheet i : �
           | inr k ↦
               inr (
                 (λ y. both_ways (record_knows own job) k (sym (ap (λ (x : Bed). knows x job) shows) ∙ y)),
-                elim (cases_lt own.waiting.len set_tickets) [
+                elim (cases_lt (length (waiting_in own.waiting)) set_tickets) [
                   | inr l ↦ inl (omega (arith, room, l), (ap (map_ok (λ _. Submitted job)) (h.full k l).0, table_unchanged t kept board i r (h.full k l).1))
                   | inl l ↦
                       let p = h.takes k l in
@@ -81,7 +71,7 @@ module _ (t : Table) (kept : Slots) (board : Board) (b number paths sheet i : �
                         (λ y. omega (arith, room, l, y)),
                         (
                           ap (map_ok (λ _. Submitted job)) p.0,
-                          table_changed t kept board b i r _ on.place on.low (ap bed_of p.4 ∙ ap (with_set (bed_of own)) p.1 ∙ ap (λ (x : Bed). with_set x (placed job x.waiting)) (sym shows)),
+                          table_changed t kept board b i r _ on.place on.low (ap bed_of p.2 ∙ ap (with_set (bed_of own)) p.1 ∙ ap (λ (x : Bed). with_set x (placed job x.waiting)) (sym shows)),
                         ),
                       )
                 ],
@@ -97,9 +87,3 @@ module _ (t : Table) (kept : Slots) (board : Board) (b number paths sheet i : �
 -- a ticket that was made is in range
 pub made_ranged : (t u : Ticket) (a : Result Ticket Refusal) → MakesTicket t a → a ≡ Ok u → InRange (t.origin + 1) t × (u ≡ t)
 made_ranged t u a h e = let r = in_range_from (t.origin + 1) t (λ out. let f = h.refused out in let z : ◌≡◌ {A = ℕ} 0 1 = cc in omega arith) in (r, let f = h.made r in cc)
-
--- and one that was refused is not
-pub refused_range : (t : Ticket) (a : Result Ticket Refusal) (e : Refusal) → MakesTicket t a → a ≡ Err e → (InRange (t.origin + 1) t → ⊥) × (e ≡ rf.Field)
-refused_range t a e h f =
-    let out : InRange (t.origin + 1) t → ⊥ = λ r. (let g = h.made r in let z : ◌≡◌ {A = ℕ} 0 1 = cc in omega arith) in
-    (out, let g = h.refused out in cc)

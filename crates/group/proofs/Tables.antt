@@ -1,25 +1,24 @@
 -- How the world of a group follows its table: sizes, single beds, and one record that changes.
-use Rattle.std.proofs.Common.{◌≡◌, ℕ, zero, suc, ◌<◌, ◌≤◌, Bool, true, false, cond, leb, ◌⊎◌, ◌∷◌, map, length, get_or, take, set, replicate, Ok, Err, Result, sym, refl, ap, ◌∙◌, subst, inl, inr, arith, length-take-le, get_or-take}
+use Rattle.std.proofs.Common.{◌≡◌, ℕ, zero, suc, ◌<◌, ◌≤◌, Bool, true, false, cond, leb, ◌⊎◌, ◌∷◌, map, length, get_or, take, set, replicate, Ok, Err, Result, sym, refl, ap, ◌∙◌, inl, inr, arith, length-take-le, get_or-take}
 use mathlib.Core.Logic.{∥∥₁_map, ∥∥₁_elim}
 use lib.Seq.{take-set-lt, map-set, set-get_or}
-use Rattle.std.proofs.lemmas.List.{length-map, get_or-map, take-replicate}
+use Rattle.std.proofs.lemmas.List.{get_or_default, length-map, get_or-map, take-replicate}
 use Rattle.std.specs.List.{AllByRecursion}
 use Rattle.std.proofs.ByRecursion.{All-set, All-get_or}
 use Rattle.std.proofs.lemmas.Bool.{leb-true, leb-false, cases_lt}
 use Rattle.codec.specs.Limits.{max_beds}
 use Rattle.memory.specs.Meaning.{Slots}
 use Rattle.decision.specs.Meaning.{Board}
-use Rattle.group.specs.Limits.{set_tickets, queue_tickets}
 use Rattle.group.specs.World.{Bed, World, off_bed, changed}
 use Rattle.group.specs.Outcome.{Answer, on_running}
-use Rattle.group.specs.Record.{bed_of, BedSound, waiting_in}
+use Rattle.group.specs.Record.{bed_of, BedSound}
 use Rattle.group.specs.Table.{beds_of, world_of, no_record, record_of, placed, admission}
 use Rattle.group.specs.Admission.{admitted}
 use Rattle.group.specs.declared.bed.BedRecord.{BedRecord}
 use Rattle.group.specs.declared.bed.Event.{Event}
 use Rattle.group.specs.declared.bed.Event.TheVariants as ev
 use Rattle.group.specs.declared.bed.Phase.{Phase}
-use Rattle.group.specs.declared.bed.Phase.TheVariants.{Off, Idle, Waiting}
+use Rattle.group.specs.declared.bed.Phase.TheVariants.{Off}
 use Rattle.group.specs.declared.refusal.Refusal.{Refusal}
 use Rattle.group.specs.declared.refusal.Refusal.TheVariants as rf
 use Rattle.group.specs.declared.table.Table.{Table}
@@ -32,6 +31,10 @@ in_table t i low = omega (arith, low, fits t)
 
 pub table_size : (t : Table) → length (beds_of t) ≡ t.size.count
 table_size t = length-map (take t.size.count t.beds) bed_of ∙ length-take-le t.size.count t.beds (fits t)
+
+-- inside the table, it does not matter what a place past the records would read as
+pub record_is : (t : Table) (i : ℕ) (r : BedRecord) → i < length t.beds → get_or t.beds i r ≡ record_of t i
+record_is t i r low = get_or_default t.beds i r no_record low
 
 -- the bed that a record shows
 pub table_bed : (t : Table) (b : ℕ) (d : BedRecord) → b < t.size.count → get_or (beds_of t) b off_bed ≡ bed_of (get_or t.beds b d)
@@ -105,27 +108,6 @@ admit_accepts t b event i p h = go (leb t.size.count b) (admitted (record_of t b
     go false (Ok z) q r k = let e : ◌≡◌ {A = ℕ × Phase} (i, p) (b, z) = cc in (ap (λ (x : ℕ × Phase). x.0) e, leb-false _ _ q, r ∙ ap (λ (x : ℕ × Phase). Ok x.1) (sym e))
     go false (Err f) q r k = absurd (let z : ◌≡◌ {A = ℕ} 0 1 = cc in omega arith)
 
--- an event of a running bed that every running bed admits
-pub off_only : (x : Phase) (event : Event) (e : Refusal) → ((event ≡ ev.Use) ⊎ (event ≡ ev.Off)) → admitted x event ≡ Err e → (x ≡ Off) × (e ≡ rf.BedOff)
-off_only Off event e (inl u) h = let z = ap (admitted Off) u in (refl, cc)
-off_only Off event e (inr u) h = let z = ap (admitted Off) u in (refl, cc)
-off_only Idle event e (inl u) h = let y = ap (admitted Idle) u in let z : ◌≡◌ {A = ℕ} 0 1 = cc in absurd (omega arith)
-off_only Idle event e (inr u) h = let y = ap (admitted Idle) u in let z : ◌≡◌ {A = ℕ} 0 1 = cc in absurd (omega arith)
-off_only Waiting event e (inl u) h = let y = ap (admitted Waiting) u in let z : ◌≡◌ {A = ℕ} 0 1 = cc in absurd (omega arith)
-off_only Waiting event e (inr u) h = let y = ap (admitted Waiting) u in let z : ◌≡◌ {A = ℕ} 0 1 = cc in absurd (omega arith)
-
--- so it is refused by the rows of a call on a running bed
-pub refused_running : {Rest : Type 0} (t : Table) (kept : Slots) (board : Board) (b : ℕ) (event : Event) (o : Answer) (e : Refusal) →
-    ((event ≡ ev.Use) ⊎ (event ≡ ev.Off)) → Err e ≡ admission t b event → o ≡ Err e → Rows t kept board b o (world_of t kept board) Rest
-refused_running {Rest} t kept board b event o e which h same =
-    subst (λ x. Rows t kept board b x (world_of t kept board) Rest) (sym same)
-    (elim (admit_refuses t b event e h) [
-      | inl p ↦ subst (λ x. Rows t kept board b (Err x) (world_of t kept board) Rest) (sym p.1) (no_bed t kept board b p.0)
-      | inr p ↦
-          let o = off_only (record_of t b).phase event e which p.1 in
-          subst (λ x. Rows t kept board b (Err x) (world_of t kept board) Rest) (sym o.1) (is_off_lem t kept board b p.0 o.0)
-    ])
-
 -- or the bed runs
 running_only : (x : Phase) (event : Event) (p : Phase) → ((event ≡ ev.Use) ⊎ (event ≡ ev.Off)) → admitted x event ≡ Ok p → x ≡ Off → ⊥
 running_only x event p (inl u) h off = let y : admitted x event ≡ Err rf.BedOff = ap (λ z. admitted z event) off ∙ ap (admitted Off) u in let z : ◌≡◌ {A = ℕ} 0 1 = cc in omega arith
@@ -166,22 +148,7 @@ bounded t i a b low f =
       | inr l ↦ l
     ]
 
-pub set_bounded : (t : Table) (i : ℕ) → i < length t.beds → (record_of t i).waiting.len ≤ set_tickets
-set_bounded t i low = bounded t i _ _ low (λ s. s.set_len)
-
-pub set_room : (t : Table) (i : ℕ) → i < length t.beds → set_tickets ≤ length (record_of t i).waiting.tickets
-set_room t i low = bounded t i _ _ low (λ s. omega (arith, s.set_room))
-
-pub queue_bounded : (t : Table) (i : ℕ) → i < length t.beds → (record_of t i).queue.len ≤ queue_tickets
-queue_bounded t i low = bounded t i _ _ low (λ s. omega (arith, s.queue_len, s.round))
-
 -- a record that is sound if the one before it was
 pub table_still_sound : (t : Table) (i : ℕ) (r : BedRecord) → i < length t.beds → (BedSound t.size.count (record_of t i) → BedSound t.size.count r) → ∥ AllByRecursion (BedSound t.size.count) (set t.beds i r) ∥₁
 table_still_sound t i r low f =
     ∥∥₁_map t.sound (λ a. All-set (BedSound t.size.count) t.beds i r (f (All-get_or (BedSound t.size.count) t.beds i no_record low a)) a)
-
--- a set shows as many tickets as it has
-pub set-length : (t : Table) (i : ℕ) → i < t.size.count → length (waiting_in (record_of t i).waiting) ≡ (record_of t i).waiting.len
-set-length t i low =
-    length-take-le (record_of t i).waiting.len (record_of t i).waiting.tickets
-    (bounded t i _ _ (omega (arith, fits t)) (λ s. omega (arith, s.set_len, s.set_room)))

@@ -5,7 +5,8 @@ use Rattle.std.specs.Prelude.{◌≡◌, ℕ, ◌+◌, ◌<◌, ◌≤◌, max, 
 use Rattle.codec.specs.Limits.{batch_tickets}
 use Rattle.codec.specs.Ticket.{InRange}
 use Rattle.codec.specs.TicketList.{known}
-use Rattle.codec.specs.Edits.{placed, passing}
+use Rattle.std.specs.List.{filter}
+use Rattle.codec.specs.Edits.{placed}
 use Rattle.codec.specs.Batch.{batch_bytes, IsBatch, batch_of}
 use Rattle.codec.specs.Packet.{packet_bytes, IsPacket, packet_of}
 use Rattle.codec.specs.declared.ticket.Ticket.{Ticket}
@@ -64,7 +65,11 @@ SubmitDoes w b number paths sheet =
 -- ---- send
 
 abbrev pub sent_bytes : SentPacket → List ℕ
-sent_bytes p = take p.len p.bytes
+sent_bytes p = p.bytes.items
+
+-- a packet with these bytes
+abbrev pub sent_packet : List ℕ → SentPacket
+sent_packet bytes = record { bytes = record { items = bytes; spare = [] } }
 
 -- the packet that a bed would send now
 abbrev pub own_packet : World → ℕ → List ℕ
@@ -81,7 +86,7 @@ SendDoes w b room = on_running w b (row w (room < length (own_packet w b)) rf.No
 
 -- the answer of a send that fills a buffer: the packet is the first bytes of it
 abbrev pub sent_answer : Result ℕ Refusal → List ℕ → Answer
-sent_answer (Ok len) buffer = Ok (rp.Sent (record { bytes = buffer; len = len }))
+sent_answer (Ok len) buffer = Ok (rp.Sent (sent_packet (take len buffer)))
 sent_answer (Err r) buffer = Err r
 
 -- past the packet the buffer is as it was, and all of it after a refusal
@@ -180,7 +185,7 @@ TripDoes named w b «at» = proposing w b (Trips named w b «at»)
 abbrev pub collected : Bed → List Ticket → Bed
 collected x ts =
     let queue : List Ticket = append x.queue ts in
-    record { phase = Idle; round = x.round + 1; heard = x.heard; waiting = passing (λ t. not (known t queue)) x.waiting; queue = queue }
+    record { phase = Idle; round = x.round + 1; heard = x.heard; waiting = filter (λ t. not (known t queue)) x.waiting; queue = queue }
 
 -- what a poll for bed b's round leaves to be done, by the decision that then stands
 pub data Collected (w : World) (b : ℕ) (a : Answer) (w' : World) : Type 0 where

@@ -16,11 +16,11 @@ use Rattle.group.specs.declared.table.Table.{Table}
 -- the bed may propose, and this is its batch
 pub record Proposable (t : Table) (b : ℕ) (p : Proposal) : Type 0 where
   pub low : b < t.size.count
-  pub index : p.index ≡ b
+  pub index : p.turn.index ≡ b
   pub idle : (record_of t b).phase ≡ Idle
   pub left : (record_of t b).round < round_count
   pub reason : NoReason (bed_of (record_of t b)) → ⊥
-  pub round : p.round ≡ (record_of t b).round
+  pub round : p.turn.round ≡ (record_of t b).round
   pub batch : value_bytes p.batch ≡ own_batch (bed_of (record_of t b))
 
 -- refused by one of the rows of a propose, or a proposal

@@ -1,6 +1,6 @@
 -- Queues: what it is to append a batch, and at which place an identity stands; assumes nothing.
-use Rattle.std.specs.Prelude.{◌≡◌, ℕ, suc, cond, List, [], ◌∷◌, ◌++◌, Some, None, Option}
-use Rattle.std.specs.List.{slice_get}
+use Rattle.std.specs.Prelude.{◌≡◌, ℕ, cond, List, [], ◌∷◌, ◌++◌, Some, Option}
+use Rattle.std.specs.List.{slice_get, position}
 use Rattle.codec.specs.Ticket.{same_identity}
 use Rattle.codec.specs.TicketList.{known}
 use Rattle.codec.specs.declared.ticket.Ticket.{Ticket}
@@ -18,11 +18,6 @@ abbrev pub append : List Ticket → List Ticket → List Ticket
 append queue [] = queue
 append queue (t ∷ ts) = append (added queue t) ts
 
-abbrev pub later : Option ℕ → Option ℕ
-later None = None
-later (Some place) = Some (suc place)
-
 -- the first place at which the identity of a ticket stands
 abbrev pub place_of : Ticket → List Ticket → Option ℕ
-place_of t [] = None
-place_of t (x ∷ xs) = cond (same_identity x t) (Some 0) (later (place_of t xs))
+place_of t queue = position (λ x. same_identity x t) queue

@@ -1,12 +1,12 @@
 -- The bed that a bed record shows, and what holds of every record; assumes nothing.
-use Rattle.std.specs.Prelude.{◌≡◌, ℕ, ◌+◌, ◌*◌, ◌<◌, ◌≤◌, Bool, true, false, ◌||◌, List, length, take, Ok, Err, Result}
+use Rattle.std.specs.Prelude.{◌≡◌, ℕ, ◌+◌, ◌*◌, ◌<◌, ◌≤◌, Bool, true, false, ◌||◌, List, length, Ok, Err, Result}
 use Rattle.codec.specs.Limits.{batch_tickets}
 use Rattle.codec.specs.Ticket.{InRange}
 use Rattle.codec.specs.TicketList.{Sound, known}
 use Rattle.codec.specs.Edits.{placed}
 use Rattle.codec.specs.declared.ticket.Ticket.{Ticket}
 use Rattle.decision.specs.Limits.{round_count}
-use Rattle.group.specs.Limits.{set_tickets, queue_tickets}
+use Rattle.group.specs.Limits.{set_tickets}
 use Rattle.group.specs.Hearing.{Hearing, unheard, hear_all}
 use Rattle.group.specs.Calls.{collected}
 use Rattle.group.specs.World.{Bed}
@@ -19,21 +19,18 @@ use Rattle.group.specs.declared.refusal.Refusal.{Refusal}
 use Rattle.group.specs.declared.refusal.Refusal.TheVariants as rf
 
 abbrev pub waiting_in : WaitingSet → List Ticket
-waiting_in s = take s.len s.tickets
+waiting_in s = s.tickets.items
 
 abbrev pub queued_in : Queue → List Ticket
-queued_in q = take q.len q.tickets
+queued_in q = q.tickets.items
 
 abbrev pub bed_of : BedRecord → Bed
 bed_of r = record { phase = r.phase; round = r.round; heard = r.heard; waiting = waiting_in r.waiting; queue = queued_in r.queue }
 
 -- what holds of a record at every moment, in a group of n beds: the set is sound and the queue has room for the rounds still to come
 pub record BedSound (n : ℕ) (r : BedRecord) : Type 0 where
-  pub set_room : length r.waiting.tickets ≡ set_tickets
-  pub set_len : r.waiting.len ≤ set_tickets
   pub set : Sound n set_tickets (waiting_in r.waiting)
-  pub queue_room : length r.queue.tickets ≡ queue_tickets
-  pub queue_len : r.queue.len ≤ batch_tickets * r.round
+  pub queue_len : length (queued_in r.queue) ≤ batch_tickets * r.round
   pub round : r.round ≤ round_count
   pub waits : r.phase ≡ Waiting → r.round < round_count
 
@@ -48,9 +45,9 @@ with_waiting r s = record { phase = r.phase; round = r.round; heard = r.heard; w
 -- a new ticket for the set: refused if it is known or the set is full, else it comes to its place and nothing else changes
 pub record TakesIn (t : Ticket) (r : BedRecord) (a : Result (Unit {0}) Refusal) (r' : BedRecord) : Type 0 where
   pub known : record_knows r t ≡ true → (a ≡ Err rf.Known) × (r' ≡ r)
-  pub full : record_knows r t ≡ false → set_tickets ≤ r.waiting.len → (a ≡ Err rf.SetFull) × (r' ≡ r)
-  pub takes : record_knows r t ≡ false → r.waiting.len < set_tickets →
-      (a ≡ Ok tt) × (waiting_in r'.waiting ≡ placed t (waiting_in r.waiting)) × (r'.waiting.len ≡ r.waiting.len + 1) × (length r'.waiting.tickets ≡ length r.waiting.tickets) × (r' ≡ with_waiting r r'.waiting)
+  pub full : record_knows r t ≡ false → set_tickets ≤ length (waiting_in r.waiting) → (a ≡ Err rf.SetFull) × (r' ≡ r)
+  pub takes : record_knows r t ≡ false → length (waiting_in r.waiting) < set_tickets →
+      (a ≡ Ok tt) × (waiting_in r'.waiting ≡ placed t (waiting_in r.waiting)) × (r' ≡ with_waiting r r'.waiting)
 
 -- a ticket of its origin is made if its fields are in their ranges
 pub record MakesTicket (t : Ticket) (a : Result Ticket Refusal) : Type 0 where
@@ -66,16 +63,13 @@ hearing_of r h = record { set = waiting_in r.waiting; taken = h.taken; full = h.
 -- one ticket heard, and nothing but the set changed
 pub record HearsOne (t : Ticket) (h : Heard) (r : BedRecord) (h' : Heard) (r' : BedRecord) : Type 0 where
   pub known : record_knows r t ≡ true → (h' ≡ h) × (r' ≡ r)
-  pub full : record_knows r t ≡ false → set_tickets ≤ r.waiting.len → (h' ≡ record { taken = h.taken; full = h.full + 1 }) × (r' ≡ r)
-  pub takes : record_knows r t ≡ false → r.waiting.len < set_tickets →
-      (h' ≡ record { taken = h.taken + 1; full = h.full }) × (waiting_in r'.waiting ≡ placed t (waiting_in r.waiting)) × (r'.waiting.len ≡ r.waiting.len + 1)
-      × (length r'.waiting.tickets ≡ length r.waiting.tickets) × (r' ≡ with_waiting r r'.waiting)
+  pub full : record_knows r t ≡ false → set_tickets ≤ length (waiting_in r.waiting) → (h' ≡ record { taken = h.taken; full = h.full + 1 }) × (r' ≡ r)
+  pub takes : record_knows r t ≡ false → length (waiting_in r.waiting) < set_tickets →
+      (h' ≡ record { taken = h.taken + 1; full = h.full }) × (waiting_in r'.waiting ≡ placed t (waiting_in r.waiting)) × (r' ≡ with_waiting r r'.waiting)
 
 -- all tickets of a packet, and nothing but the set changed
 pub record HearsAll (ts : List Ticket) (r : BedRecord) (h : Heard) (r' : BedRecord) : Type 0 where
   pub hearing : hearing_of r' h ≡ hear_all (queued_in r.queue) (unheard (waiting_in r.waiting)) ts
-  pub len : r'.waiting.len ≤ set_tickets
-  pub room : length r'.waiting.tickets ≡ length r.waiting.tickets
   pub rest : r' ≡ with_waiting r r'.waiting
 
 -- a record with another heard round
@@ -86,7 +80,4 @@ with_heard r heard = record { phase = r.phase; round = r.round; heard = heard; w
 
 pub record CollectsBatch (ts : List Ticket) (r r' : BedRecord) : Type 0 where
   pub bed : bed_of r' ≡ collected (bed_of r) ts
-  pub set_len : r'.waiting.len ≤ r.waiting.len
-  pub set_room : length r'.waiting.tickets ≡ length r.waiting.tickets
-  pub queue_len : r'.queue.len ≤ r.queue.len + length ts
-  pub queue_room : length r'.queue.tickets ≡ length r.queue.tickets
+  pub queue_len : length (queued_in r'.queue) ≤ length (queued_in r.queue) + length ts

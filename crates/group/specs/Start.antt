@@ -4,7 +4,6 @@ use Rattle.codec.specs.Limits.{batch_tickets}
 use Rattle.memory.specs.Meaning.{Slots}
 use Rattle.decision.specs.Limits.{round_count}
 use Rattle.decision.specs.Meaning.{Board}
-use Rattle.group.specs.Limits.{set_tickets, queue_tickets}
 use Rattle.group.specs.World.{Bed}
 use Rattle.group.specs.Replay.{Replay, started}
 use Rattle.group.specs.Calls.{starting}
@@ -20,10 +19,7 @@ use Rattle.group.specs.declared.table.Table.{Table}
 -- a record that is being replayed: idle, with an empty set, and a queue with room for the rounds still to come
 pub record StartSound (r : BedRecord) : Type 0 where
   pub bed : bed_of r ≡ started Idle r.round (queued_in r.queue)
-  pub set_room : length r.waiting.tickets ≡ set_tickets
-  pub set_len : r.waiting.len ≡ 0
-  pub queue_room : length r.queue.tickets ≡ queue_tickets
-  pub queue_len : r.queue.len ≤ batch_tickets * r.round
+  pub queue_len : length (queued_in r.queue) ≤ batch_tickets * r.round
   pub round : r.round ≤ round_count
 
 -- how a replay from here goes on, given how it goes on from there

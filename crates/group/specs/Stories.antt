@@ -75,10 +75,6 @@ Served =
 abbrev pub lent : List ℕ → Bor (List ℕ)
 lent bytes = record { ref_ptr = (0, 0); now = bytes }
 
--- a packet as a send hands it out
-abbrev pub sent : List ℕ → ℕ → SentPacket
-sent bytes len = record { bytes = bytes; len = len }
-
 -- bed 1 starts when bed 0 has cut its first job; it hears of the later round, goes through the first with nothing of its own, and has the
 -- same queue
 abbrev pub Late : Type 0

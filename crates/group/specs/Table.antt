@@ -26,8 +26,8 @@ no_record = record {
   phase = Off;
   round = 0;
   heard = 0;
-  waiting = record { tickets = []; len = 0 };
-  queue = record { tickets = []; len = 0 };
+  waiting = record { tickets = record { items = []; spare = [] } };
+  queue = record { tickets = record { items = []; spare = [] } };
 }
 
 abbrev pub record_of : Table → ℕ → BedRecord

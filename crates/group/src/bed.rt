@@ -4,6 +4,7 @@ ghost use Rattle.group.specs.World.{off_bed};
 ghost use Rattle.decision.specs.Limits.{round_count};
 ghost use Rattle.group.specs.Calls.{later_of, NoReason};
 ghost use Rattle.group.specs.Limits.{set_tickets, queue_tickets};
+ghost use Rattle.group.specs.Replay.{started};
 ghost use Rattle.group.specs.Start.{StartSound};
 ghost use Rattle.group.specs.Record.{queued_in, bed_of, BedSound, TakesIn, HearsOne, HearsAll, with_heard, CollectsBatch};
 ghost use Rattle.group.specs.Questions.{state_of, standing_at};
@@ -14,6 +15,7 @@ use super::question::{Standing, State};
 use super::queue::Queue;
 use super::refusal::Refusal;
 use super::waiting_set::WaitingSet;
+use codec::fixed_vec::Full;
 use codec::ticket::Ticket;
 
 /// A bed is off, or it is running: idle between rounds, or waiting for the decision of its round.
@@ -25,6 +27,7 @@ pub enum Phase {
 }
 
 /// What a call asks of a bed.
+// One half of a table, phase by event (`Phase::after`), and no switch on which step to run.
 #[derive(Clone, Copy)]
 pub(crate) enum Event {
     Start,
@@ -42,66 +45,58 @@ pub struct BedRecord {
     pub(crate) phase: Phase,
     // The rounds below this one are in the queue.
     pub(crate) round: u8,
-    // The highest round above its own that another bed told of, or 0.
+    // The highest round above its own that another bed told of, or 0. No round is below 0, so one comparison does for both.
     pub(crate) heard: u8,
     pub(crate) waiting: WaitingSet,
     pub(crate) queue: Queue,
 }
 
 impl BedRecord {
-    // A bed without power.
-    pub(crate) fn off() -> BedRecord
-        ensures bed { bed_of result ≡ off_bed }
-        ensures sound { (n : ℕ) → BedSound n result }
+    // A bed before its first round, with nothing in its set and its queue.
+    fn new(phase: Phase) -> BedRecord
+        ensures { bed_of result ≡ started phase 0 [] }
     {
         BedRecord {
-            phase: Phase::Off,
+            phase,
             round: 0,
             heard: 0,
             waiting: WaitingSet::new(),
             queue: Queue::new(),
         }
     }
-}
 
-impl BedRecord {
-    // A bed that has just got power, before its first round.
+    // A bed without power. An empty record and no `None`: the law shows an off bed so, and its place in the table stays.
+    pub(crate) fn off() -> BedRecord
+        ensures bed { bed_of result ≡ off_bed }
+        ensures sound { (n : ℕ) → BedSound n result }
+    {
+        BedRecord::new(Phase::Off)
+    }
+
+    // A bed that has just got power.
     pub(crate) fn fresh() -> BedRecord
         ensures sound { StartSound result }
         ensures round { result.round ≡ 0 }
         ensures queue { queued_in result.queue ≡ [] }
     {
-        BedRecord {
-            phase: Phase::Idle,
-            round: 0,
-            heard: 0,
-            waiting: WaitingSet::new(),
-            queue: Queue::new(),
-        }
+        BedRecord::new(Phase::Idle)
     }
 
     // A new ticket for the set.
     pub(crate) fn take_in(&mut self, ticket: Ticket) -> Result<(), Refusal>
-        requires set { self.old.waiting.len ≤ set_tickets }
-        requires queue { self.old.queue.len ≤ queue_tickets }
         ensures takes { TakesIn ticket self.old result self.new }
     {
         if self.waiting.knows(&ticket) || self.queue.knows(&ticket) {
             return Err(Refusal::Known);
         }
-        if self.waiting.is_full() {
-            return Err(Refusal::SetFull);
-        }
-        self.waiting.insert(ticket);
-        Ok(())
+        self.waiting.insert(ticket).map_err(|_| Refusal::SetFull)
     }
 }
 
 impl BedRecord {
     // A decided batch comes into the queue, and the round is over.
     pub(crate) fn collect(&mut self, batch: &[Ticket])
-        requires set { self.old.waiting.len ≤ set_tickets }
-        requires queue { self.old.queue.len + length batch.now ≤ queue_tickets }
+        requires queue { length (queued_in self.old.queue) + length batch.now ≤ queue_tickets }
         requires left { self.old.round < round_count }
         ensures collects { CollectsBatch batch.now self.old self.new }
     {
@@ -115,8 +110,6 @@ impl BedRecord {
 impl BedRecord {
     // How the bed stands.
     pub(crate) fn state(&self) -> State
-        requires set { self.now.waiting.len ≤ set_tickets }
-        requires queue { self.now.queue.len ≤ queue_tickets }
         ensures { result ≡ state_of (bed_of self.now) }
     {
         match self.phase {
@@ -129,7 +122,7 @@ impl BedRecord {
             Phase::Idle | Phase::Waiting => State {
                 phase: self.phase,
                 round: self.round,
-                waiting: self.waiting.len() as u8,
+                waiting: self.waiting.as_slice().len() as u8,
                 queued: self.queue.len() as u16,
             },
         }
@@ -137,8 +130,6 @@ impl BedRecord {
 
     // Where a ticket stands.
     pub(crate) fn standing(&self, ticket: &Ticket) -> Standing
-        requires set { self.now.waiting.len ≤ set_tickets }
-        requires queue { self.now.queue.len ≤ queue_tickets }
         ensures { result ≡ standing_at (bed_of self.now) ticket.now }
     {
         if let Some(place) = self.queue.place_of(ticket) {
@@ -153,7 +144,6 @@ impl BedRecord {
 
     // Whether there is no reason to propose: no ticket waits, and no later round was heard of.
     pub(crate) fn is_content(&self) -> bool
-        requires { self.now.waiting.len ≤ length self.now.waiting.tickets }
         ensures { Decides result (NoReason (bed_of self.now)) }
     {
         self.waiting.is_empty() && self.heard <= self.round
@@ -161,33 +151,27 @@ impl BedRecord {
 
     // One ticket of a packet: a known identity is skipped, another is taken while there is room.
     fn hear_one(&mut self, ticket: &Ticket, heard: Heard) -> Heard
-        requires set { self.old.waiting.len ≤ set_tickets }
-        requires queue { self.old.queue.len ≤ queue_tickets }
         requires count { heard.taken + heard.full < set_tickets }
         ensures hears { HearsOne ticket.now heard self.old result self.new }
     {
         if self.waiting.knows(ticket) || self.queue.knows(ticket) {
             return heard;
         }
-        if self.waiting.is_full() {
-            return Heard {
-                taken: heard.taken,
+        match self.waiting.insert(*ticket) {
+            Ok(()) => Heard {
+                taken: heard.taken + 1,
+                ..heard
+            },
+            Err(Full) => Heard {
                 full: heard.full + 1,
-            };
-        }
-        self.waiting.insert(*ticket);
-        Heard {
-            taken: heard.taken + 1,
-            full: heard.full,
+                ..heard
+            },
         }
     }
 
     // The tickets of a packet, in their order.
     pub(crate) fn hear_tickets(&mut self, tickets: &[Ticket]) -> Heard
-        requires set { self.old.waiting.len ≤ set_tickets }
-        requires queue { self.old.queue.len ≤ queue_tickets }
-        requires few { length tickets.now ≤ set_tickets }
-        requires room { set_tickets ≤ length self.old.waiting.tickets }
+        requires { length tickets.now ≤ set_tickets }
         ensures hears { HearsAll tickets.now self.old result self.new }
     {
         let mut heard = Heard { taken: 0, full: 0 };

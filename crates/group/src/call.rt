@@ -1,9 +1,11 @@
 // The calls that change a group, and what they answer.
 use super::refusal::Refusal;
+use codec::fixed_vec::FixedVec;
 use codec::limits::MAX_PACKET_BYTES;
 use codec::ticket::Ticket;
 
 /// A call that may change the group. The bed is the one that the call is made on.
+// A value and no closure: the law speaks of lists of calls. It carries plain numbers, any of them: what is out of range is refused.
 #[derive(Clone, Copy)]
 pub enum Call<'a> {
     /// Power on: the bed takes up its queue again from what it kept.
@@ -50,8 +52,7 @@ pub enum Call<'a> {
 /// The bytes of a packet that was sent.
 #[derive(Clone, Copy)]
 pub struct SentPacket {
-    pub(crate) bytes: [u8; MAX_PACKET_BYTES],
-    pub(crate) len: usize,
+    pub(crate) bytes: FixedVec<u8, MAX_PACKET_BYTES>,
 }
 
 /// What an accepted call answers.

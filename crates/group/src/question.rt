@@ -2,6 +2,7 @@
 use super::bed::Phase;
 
 /// How a bed stands; all zeros if it is off.
+// Zeros and no `Option`: an off bed is empty and in no round, and the phase beside them tells it from one that just started.
 #[derive(Clone, Copy)]
 pub struct State {
     pub phase: Phase,

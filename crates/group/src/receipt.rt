@@ -7,6 +7,7 @@ use codec::ticket::Ticket;
 /// A bed took this ticket. A receipt must be given back, by redeem or waive: a program that lets one lapse is not proved.
 pub(crate) struct Receipt {
     ticket: Ticket,
+    // A flag, so that what a lapse breaks is a clause that stands here to be read: without a `Drop`, no clause would say it.
     given_back: bool,
 }
 

@@ -43,6 +43,7 @@ pub enum Refusal {
     Service(DecisionRefusal),
 }
 
+// By hand, here and below: a derived conversion would not say what it gives.
 impl From<SitedFault> for Refusal {
     ghost from_gives = { λ x y. y ≡ Faulty x };
 
@@ -69,6 +70,7 @@ impl From<DecisionRefusal> for Refusal {
 
 impl Refusal {
     /// The number that documents give it.
+    // By a match, since a case that carries the refusal of another crate has no number of its own.
     pub fn number(self) -> u8
         ensures { result ≡ refusal_number self }
     {
@@ -92,12 +94,10 @@ impl Refusal {
     }
 }
 
-// What was read, or its fault with the bed that read it, the bed's round and what it read from.
+// What was read, or its fault with the bed that read it, the bed's round and what it read from. Each reader makes its own site: a function
+// that took all four with the bytes would be no shorter to call.
 pub(crate) fn sited<T>(read: Result<T, WholeFault>, site: Site) -> Result<T, SitedFault>
     ensures { result ≡ raise (λ f. record { fault = f; site = site }) read }
 {
-    match read {
-        Ok(value) => Ok(value),
-        Err(fault) => Err(fault.at(site)),
-    }
+    read.map_err(|fault| fault.at(site))
 }

@@ -18,6 +18,7 @@ use super::receipt::{Receipt, Redeemed, Unredeemed};
 use super::refusal::{Refusal, sited};
 use super::table::Table;
 use codec::batch::read_batch;
+use codec::fixed_vec::FixedVec;
 use codec::limits::MAX_PACKET_BYTES;
 use codec::ticket::Ticket;
 use codec::whole::{Site, Source};
@@ -53,10 +54,10 @@ impl<M: Memory, S: DecisionService> Row<M, S> {
     {
         let proposal = self.table.proposal(bed, Event::Propose)?;
         let bytes = proposal.batch.as_slice();
-        self.memory.keep(bed, proposal.round, bytes)?;
+        self.memory.keep(bed, proposal.turn.round, bytes)?;
         // Taken or had, the bed's proposal now stands.
-        let _ = self.service.put(bed, proposal.round, bytes);
-        self.table.wait(proposal.index);
+        let _ = self.service.put(bed, proposal.turn.round, bytes);
+        self.table.wait(proposal.turn.index);
         Ok(())
     }
 
@@ -66,8 +67,9 @@ impl<M: Memory, S: DecisionService> Row<M, S> {
     {
         let proposal = self.table.proposal(bed, Event::Trip)?;
         let bytes = proposal.batch.as_slice();
-        self.memory.torn_keep(bed, proposal.round, bytes, at, junk);
-        self.table.cut(proposal.index);
+        self.memory
+            .torn_keep(bed, proposal.turn.round, bytes, at, junk);
+        self.table.cut(proposal.turn.index);
         Ok(())
     }
 
@@ -100,7 +102,7 @@ impl<M: Memory, S: DecisionService> Row<M, S> {
             return Ok(Replayed::End);
         }
         let Ok(slot) = self.memory.read(bed, round) else {
-            unreachable()
+            unreachable!()
         };
         let Some(bytes) = slot else {
             return Ok(Replayed::End);
@@ -133,12 +135,7 @@ impl<M: Memory, S: DecisionService> Row<M, S> {
     {
         let index = self.table.startable(bed)?;
         let mut own = BedRecord::fresh();
-        loop {
-            match self.replay(bed, &mut own)? {
-                Replayed::Round => {}
-                Replayed::End => break,
-            }
-        }
+        while let Replayed::Round = self.replay(bed, &mut own)? {}
         self.table.enter(index, own);
         Ok(())
     }
@@ -188,6 +185,7 @@ impl<M: Memory, S: DecisionService> Row<M, S> {
     fn redeem(&self, receipt: Receipt) -> Result<Redeemed, Unredeemed>
         ensures { result ≡ redeemed (redeem_answer (shows M.holds S.board self.now) receipt.ticket) receipt }
     {
+        // No `map_err`: its closure would take the receipt, which the other answers still need.
         let standing = match self.table.standing(receipt.ticket()) {
             Ok(standing) => standing,
             Err(refusal) => return Err(Unredeemed { refusal, receipt }),
@@ -207,16 +205,19 @@ impl<M: Memory, S: DecisionService> Row<M, S> {
 }
 
 impl<M: Memory, S: DecisionService> Row<M, S> {
-    // Sends into a packet of its own, with so much room.
+    // Sends into a packet of its own, with so much room. The buffer is there since `send` promises what it leaves in one that is lent.
     fn send_packet(&self, bed: u32, room: usize) -> Result<SentPacket, Refusal>
         ensures { SendDoes (shows M.holds S.board self.now) bed room (map_ok Sent result) (shows M.holds S.board self.now) }
     {
-        let mut bytes = [0; MAX_PACKET_BYTES];
-        let len = self.send(bed, &mut bytes)?;
+        let mut buffer = [0; MAX_PACKET_BYTES];
+        let len = self.send(bed, &mut buffer)?;
         if len > room {
             return Err(Refusal::NoRoom);
         }
-        Ok(SentPacket { bytes, len })
+        let Ok(bytes) = FixedVec::try_from(&buffer[..len]) else {
+            unreachable!()
+        };
+        Ok(SentPacket { bytes })
     }
 
     // Makes one call.
@@ -224,10 +225,7 @@ impl<M: Memory, S: DecisionService> Row<M, S> {
         ensures { Does M.named (shows M.holds S.board self.old) call.now result (shows M.holds S.board self.new) }
     {
         match call {
-            Call::Start { bed } => {
-                self.start(*bed)?;
-                Ok(Reply::Done)
-            }
+            Call::Start { bed } => self.start(*bed)?,
             Call::Submit {
                 bed,
                 number,
@@ -235,38 +233,21 @@ impl<M: Memory, S: DecisionService> Row<M, S> {
                 sheet,
             } => {
                 let receipt = self.submit(*bed, *number, *paths, *sheet)?;
-                Ok(Reply::Submitted(receipt.waive()))
+                return Ok(Reply::Submitted(receipt.waive()));
             }
-            Call::Send { bed, room } => {
-                let packet = self.send_packet(*bed, *room)?;
-                Ok(Reply::Sent(packet))
-            }
-            Call::Hear { bed, bytes } => {
-                let heard = self.hear(*bed, bytes)?;
-                Ok(Reply::Heard(heard))
-            }
-            Call::Propose { bed } => {
-                self.propose(*bed)?;
-                Ok(Reply::Done)
-            }
-            Call::Trip { bed, at, junk } => {
-                self.trip(*bed, *at, *junk)?;
-                Ok(Reply::Done)
-            }
-            Call::Collect { bed } => {
-                self.collect(*bed)?;
-                Ok(Reply::Done)
-            }
-            Call::Off { bed } => {
-                self.off(*bed)?;
-                Ok(Reply::Done)
-            }
+            Call::Send { bed, room } => return self.send_packet(*bed, *room).map(Reply::Sent),
+            Call::Hear { bed, bytes } => return self.hear(*bed, bytes).map(Reply::Heard),
+            Call::Propose { bed } => self.propose(*bed)?,
+            Call::Trip { bed, at, junk } => self.trip(*bed, *at, *junk)?,
+            Call::Collect { bed } => self.collect(*bed)?,
+            Call::Off { bed } => self.off(*bed)?,
         }
+        Ok(Reply::Done)
     }
 }
 
 impl<M: Memory, S: DecisionService> Row<M, S> {
-    // Makes the calls one after another; each answer goes to the place of its call.
+    // Makes the calls one after another; each answer goes to the place of its call, in what the caller lends.
     fn run(
         &mut self,
         calls: &[Call<'_>],
@@ -277,10 +258,8 @@ impl<M: Memory, S: DecisionService> Row<M, S> {
         if answers.len() < calls.len() {
             return Err(Refusal::NoRoom);
         }
-        let mut made = 0;
-        while made < calls.len() {
-            answers[made] = self.perform(&calls[made]);
-            made += 1;
+        for (made, call) in calls.iter().enumerate() {
+            answers[made] = self.perform(call);
         }
         Ok(())
     }

@@ -1,129 +1,87 @@
 // A bed's waiting set: tickets that are not queued yet.
-ghost use Rattle.std.specs.Prelude.{◌≡◌, ◌+◌, ◌<◌, ◌≤◌, not, ◌∷◌, ◌++◌, length, take, drop, ◌==◌, nat_le};
-ghost use Rattle.codec.specs.Edits.{placed, passing};
-ghost use Rattle.codec.specs.TicketList.{known as known_in};
-ghost use Rattle.group.specs.Limits.{set_tickets, queue_tickets};
-ghost use Rattle.group.specs.Record.{waiting_in, queued_in};
-
 use super::limits::SET_TICKETS;
 use super::queue::Queue;
+use codec::fixed_vec::{FixedVec, Full};
 use codec::ticket::Ticket;
 use codec::ticket_list::known;
 
 /// Tickets that were submitted or heard and are not in the queue yet, in ticket order.
 #[derive(Clone, Copy)]
 pub struct WaitingSet {
-    tickets: [Ticket; SET_TICKETS],
-    len: usize,
+    tickets: FixedVec<Ticket, SET_TICKETS>,
 }
 
 impl WaitingSet {
+    ghost use Rattle.std.specs.Prelude.{◌≡◌, ◌+◌, ◌<◌, ◌≤◌, ◌↔◌, not, [], length, take, insert, ◌==◌, IsOk, OnOk, OnErr};
+    ghost use Rattle.std.specs.List.{filter};
+    ghost use Rattle.codec.specs.Edits.{placed};
+    ghost use Rattle.codec.specs.TicketList.{known as known_in};
+    ghost use Rattle.group.specs.Limits.{set_tickets};
+    ghost use Rattle.group.specs.Record.{waiting_in, queued_in};
+
     // No ticket.
     pub(crate) fn new() -> WaitingSet
-        ensures len { result.len ≡ 0 }
-        ensures room { length result.tickets ≡ set_tickets }
+        ensures { waiting_in result ≡ [] }
     {
-        let none = Ticket {
-            paths: 0,
-            origin: 0,
-            number: 0,
-            sheet: 0,
-        };
         WaitingSet {
-            tickets: [none; SET_TICKETS],
-            len: 0,
+            tickets: FixedVec::new(),
         }
     }
 
     pub(crate) fn as_slice(&self) -> &[Ticket]
-        requires { self.now.len ≤ set_tickets }
-        ensures { result.now ≡ waiting_in self.now }
+        ensures value { result.now ≡ waiting_in self.now }
+        ensures fits { length result.now ≤ set_tickets }
     {
-        &self.tickets[0..self.len]
-    }
-
-    pub(crate) fn len(&self) -> usize
-        requires { self.now.len ≤ set_tickets }
-        ensures { result ≡ length (waiting_in self.now) }
-    {
-        self.as_slice().len()
-    }
-
-    pub(crate) fn is_full(&self) -> bool
-        ensures { result ≡ nat_le set_tickets self.now.len }
-    {
-        self.len >= SET_TICKETS
+        self.tickets.as_slice()
     }
 
     pub(crate) fn is_empty(&self) -> bool
-        ensures { result ≡ (self.now.len == 0) }
+        ensures { result ≡ (length (waiting_in self.now) == 0) }
     {
-        self.len == 0
+        self.tickets.is_empty()
     }
 
     // The first tickets, at most so many.
     pub(crate) fn first(&self, most: usize) -> &[Ticket]
-        requires { self.now.len ≤ set_tickets }
         ensures { result.now ≡ take most (waiting_in self.now) }
     {
-        let count = self.len.min(most);
-        &self.tickets[0..count]
+        let all = self.as_slice();
+        &all[..most.min(all.len())]
     }
 
-    // Whether the identity of a ticket waits.
+    // Whether the identity of a ticket waits. The queue has the like of this and of `new`: each is a line over its own list, with its own
+    // words in the clause.
     pub(crate) fn knows(&self, ticket: &Ticket) -> bool
-        requires { self.now.len ≤ set_tickets }
         ensures { result ≡ known_in ticket.now (waiting_in self.now) }
     {
-        known(self.as_slice(), ticket)
+        known(&self.tickets, ticket)
     }
 
-    // One ticket more, in its place: later tickets move up, the last of them first.
-    pub(crate) fn insert(&mut self, ticket: Ticket)
-        requires { self.old.len < set_tickets }
-        ensures after { waiting_in self.new ≡ placed ticket (waiting_in self.old) }
-        ensures len { self.new.len ≡ self.old.len + 1 }
-        ensures room { length self.new.tickets ≡ length self.old.tickets }
+    // One ticket more, in its place, if there is room.
+    pub(crate) fn insert(&mut self, ticket: Ticket) -> Result<(), Full>
+        ensures room { IsOk result ↔ (length (waiting_in self.old) < set_tickets) }
+        ensures placed { OnOk result (waiting_in self.new ≡ placed ticket (waiting_in self.old)) }
+        ensures same { OnErr result (self.new ≡ self.old) }
     {
         let place = self.place_for(&ticket);
-        let mut end = self.len;
-        while end > place {
-            self.tickets[end] = self.tickets[end - 1];
-            end -= 1;
-        }
-        self.tickets[place] = ticket;
-        self.len += 1;
+        self.tickets.try_insert(place, ticket)
     }
 
     // How many tickets a new one does not stand before.
     fn place_for(&self, ticket: &Ticket) -> usize
-        requires { self.now.len ≤ set_tickets }
-        ensures within { result ≤ self.now.len }
-        ensures place { placed ticket.now (waiting_in self.now) ≡ take result (waiting_in self.now) ++ ticket.now ∷ drop result (waiting_in self.now) }
+        ensures within { result ≤ length (waiting_in self.now) }
+        ensures place { placed ticket.now (waiting_in self.now) ≡ insert (waiting_in self.now) result ticket.now }
     {
-        let mut place = 0;
-        while place < self.len && !ticket.stands_before(&self.tickets[place]) {
-            place += 1;
-        }
-        place
+        let all = self.as_slice();
+        all.iter()
+            .position(|other| ticket.stands_before(other))
+            .unwrap_or(all.len())
     }
 
     // What is queued leaves the set.
     pub(crate) fn leave(&mut self, queue: &Queue)
-        requires room { self.old.len ≤ set_tickets }
-        requires queue { queue.now.len ≤ queue_tickets }
-        ensures after { waiting_in self.new ≡ passing (λ t. not (known_in t (queued_in queue.now))) (waiting_in self.old) }
-        ensures len { self.new.len ≤ self.old.len }
-        ensures room { length self.new.tickets ≡ length self.old.tickets }
+        ensures { waiting_in self.new ≡ filter (λ t. not (known_in t (queued_in queue.now))) (waiting_in self.old) }
     {
-        let mut left = 0;
-        for place in 0..self.len {
-            let ticket = self.tickets[place];
-            if !queue.knows(&ticket) {
-                self.tickets[left] = ticket;
-                left += 1;
-            }
-        }
-        self.len = left;
+        self.tickets.retain(|ticket| !queue.knows(ticket));
     }
 }

@@ -6,4 +6,4 @@ use Rattle.group.proofs.queue.Queue.append.Given as goal
 -- the tickets still to come lead to the same queue
 abbrev pub invariant-loop-ticket : goal.invariant-loop-ticket
 invariant-loop-ticket l =
-    (l.self.len ≤ l.initial.self.len + l.ticket-index) × (length l.self.tickets ≡ length l.initial.self.tickets) × (append (queued_in l.self) (drop l.ticket-index l.batch) ≡ append (queued_in l.initial.self) l.batch)
+    (length (queued_in l.self) ≤ length (queued_in l.initial.self) + l.ticket-index) × (append (queued_in l.self) (drop l.ticket-index l.batch) ≡ append (queued_in l.initial.self) l.batch)

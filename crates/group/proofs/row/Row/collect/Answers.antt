@@ -1,16 +1,13 @@
-use Rattle.std.proofs.Common.{◌≡◌, ℕ, ◌<◌, ◌≤◌, List, length, get_or, set, Ok, Err, sym, ap, ◌∙◌, subst}
+use Rattle.std.proofs.Common.{◌≡◌, ℕ, List, get_or, set, Ok, Err, sym, ap, ◌∙◌, subst}
 use Rattle.std.proofs.lemmas.Result.{err_from_is_err_and}
 use Rattle.codec.specs.Chain.{map_ok}
-use Rattle.codec.specs.Limits.{batch_tickets}
 use Rattle.codec.specs.Batch.{IsBatch, ReadBatch, batch_of}
 use Rattle.codec.specs.Tickets.{listed}
 use Rattle.codec.specs.Value.{value_bytes}
-use Rattle.codec.specs.declared.ticket.Ticket.{Ticket}
 use Rattle.codec.specs.declared.beds.Beds.{Beds}
 use Rattle.group.specs.World.{off_bed}
 use Rattle.group.specs.Calls.{CollectDoes, collected}
-use Rattle.group.specs.Proposal.{Collectable}
-use Rattle.group.specs.Table.{world_of, beds_of, record_of}
+use Rattle.group.specs.Table.{world_of, beds_of}
 use Rattle.group.specs.declared.call.Reply.TheVariants.{Done}
 use Rattle.group.specs.declared.refusal.Refusal.TheVariants as rf
 use Rattle.group.proofs.Options.{raised_err, raised_ok}
@@ -50,22 +47,6 @@ returns-in_err-batch g c =
     subst (λ r. CollectDoes (world_of t m s) c.args.bed (map_ok (λ _. Done) r) (world_of t m s')) (sym (p.1 ∙ ap Err (p.2 ∙ ap rf.Faulty f.2)))
     (collect_faulty t m s c.args.bed c.in_ok-turn.turn c.in_ok-turn.ensures c.poll.result x s' f.0 c.poll.ensures c.in_ok-decision.was bad)
 
-pub collect-requires : goal.collect-requires
-collect-requires g c =
-    let t = c.args.self.now.table in
-    let on : Collectable t c.args.bed c.in_ok-turn.turn = c.in_ok-turn.ensures in
-    let x = c.in_ok-decision.decision in
-    let l = c.in_ok-batch.batch in
-    let read : c.read_batch.result ≡ Ok l = raised_ok _ c.read_batch.result l (sym c.sited.ensures ∙ c.in_ok-batch.was) in
-    let batch : IsBatch t.size.count (value_bytes x) (listed l) =
-    subst (λ (v : List ℕ). IsBatch t.size.count v (listed l)) c.as_slice.ensures
-    (subst (λ (n : Beds). IsBatch n.count c.as_slice.result.now (listed l)) c.size.ensures (subst (ReadBatch c.size.result.count c.as_slice.result.now) read c.read_batch.ensures.sound)) in
-    record {
-      low = subst (λ k. k < t.size.count) (sym on.index) on.low;
-      waits = ap (λ k. (record_of t k).phase) on.index ∙ on.waits;
-      few = subst (λ (ts : List Ticket). length ts ≤ batch_tickets) (sym c.as_slice-2.ensures) batch.sound.few;
-    }
-
 pub returns : goal.returns
 returns g c =
     let t = c.args.self.now.table in
@@ -79,4 +60,4 @@ returns g c =
     subst (λ (v : List ℕ). IsBatch t.size.count v (listed l)) c.as_slice.ensures
     (subst (λ (n : Beds). IsBatch n.count c.as_slice.result.now (listed l)) c.size.ensures (subst (ReadBatch c.size.result.count c.as_slice.result.now) read c.read_batch.ensures.sound)) in
     collect_done t m s c.args.bed c.in_ok-turn.turn c.in_ok-turn.ensures c.poll.result x s' (listed l) c.collect.new.self c.poll.ensures c.in_ok-decision.was batch
-    (c.collect.ensures ∙ ap (λ ts. set (beds_of t) c.in_ok-turn.turn.index (collected (get_or (beds_of t) c.in_ok-turn.turn.index off_bed) ts)) c.as_slice-2.ensures)
+    (c.collect.ensures ∙ ap (λ ts. set (beds_of t) c.in_ok-turn.turn.index (collected (get_or (beds_of t) c.in_ok-turn.turn.index off_bed) ts)) c.as_slice-2.ensures.items)

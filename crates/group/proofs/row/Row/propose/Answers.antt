@@ -28,7 +28,7 @@ returns-in_err-keep g c =
     let p = err_from_is_err_and c.from_residual-in_err-keep.result c.from_residual-in_err-keep.ensures.1 in
     subst (λ r. ProposeDoes (world_of t m s) c.args.bed (map_ok (λ _. Done) r) (world_of t m' s)) (sym (p.1 ∙ ap Err p.2))
     (propose_differs t m s c.args.bed j c.in_ok-proposal.ensures c.keep.result c.in_err-keep.field-0.0 m'
-    (subst (λ (v : List ℕ). Keeps m c.args.bed j.round v c.keep.result m') c.as_slice-bytes.ensures c.keep.ensures) c.in_err-keep.was)
+    (subst (λ (v : List ℕ). Keeps m c.args.bed j.turn.round v c.keep.result m') c.as_slice-bytes.ensures c.keep.ensures) c.in_err-keep.was)
 
 pub returns : goal.returns
 returns g c =
@@ -39,5 +39,5 @@ returns g c =
     let s' = g.S.DecisionService.board c.put.new.self in
     let j = c.in_ok-proposal.proposal in
     propose_done t m s c.args.bed j c.in_ok-proposal.ensures c.keep.result m' c.put.result s' c.wait.new.self
-    (subst (λ (v : List ℕ). Keeps m c.args.bed j.round v c.keep.result m') c.as_slice-bytes.ensures c.keep.ensures) c.in_ok-keep.was
-    (subst (λ (v : List ℕ). Puts s c.args.bed j.round v c.put.result s') c.as_slice-bytes.ensures c.put.ensures) c.wait.ensures.beds
+    (subst (λ (v : List ℕ). Keeps m c.args.bed j.turn.round v c.keep.result m') c.as_slice-bytes.ensures c.keep.ensures) c.in_ok-keep.was
+    (subst (λ (v : List ℕ). Puts s c.args.bed j.turn.round v c.put.result s') c.as_slice-bytes.ensures c.put.ensures) c.wait.ensures.beds

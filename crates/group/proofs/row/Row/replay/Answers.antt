@@ -130,7 +130,7 @@ returns g c =
     let l = c.in_ok-batch.batch in
     let new = sited_batch t.size c.size-2.result c.as_slice.result.now (value_bytes x) _ c.read_batch-2.result c.sited-2.result l decided c.in_ok-batch.was in
     let r' = c.collect.new.self in
-    let h : CollectsBatch (listed l) r r' = subst (λ ts. CollectsBatch ts r r') c.as_slice-2.ensures c.collect.ensures.collects in
+    let h : CollectsBatch (listed l) r r' = subst (λ ts. CollectsBatch ts r r') c.as_slice-2.ensures.items c.collect.ensures.collects in
     record {
       replays = (
         next_round t.size.count slots c.args.bed r c.requires.sound left (listed l) r' h,

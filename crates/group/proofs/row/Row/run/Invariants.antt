@@ -1,4 +1,4 @@
-use Rattle.std.proofs.Common.{◌-◌, length, take}
+use Rattle.std.proofs.Common.{take}
 use Rattle.group.specs.Row.{shows, Made}
 use Rattle.group.proofs.row.Row.run.Given as goal
 
@@ -7,6 +7,3 @@ abbrev pub invariant-loop-made : goal.invariant-loop-made
 invariant-loop-made g l =
     let world = shows g.M.Memory.holds g.S.DecisionService.board in
     Made g.M.Memory.named (world l.initial.self) (take l.made l.calls) l.initial.answers l.answers (world l.self)
-
-abbrev pub decreases-loop-made : goal.decreases-loop-made
-decreases-loop-made g l = length l.calls - l.made

@@ -1,11 +1,10 @@
-use Rattle.std.proofs.Common.{ℕ, List, Err, sym, ap, ◌∙◌, subst}
+use Rattle.std.proofs.Common.{Err, sym, ap, ◌∙◌, subst}
 use Rattle.std.proofs.lemmas.Result.{err_from_is_err_and}
 use Rattle.codec.specs.Chain.{map_ok}
-use Rattle.memory.specs.Meaning.{Tears}
 use Rattle.group.specs.Calls.{TripDoes}
 use Rattle.group.specs.Table.{world_of}
 use Rattle.group.specs.declared.call.Reply.TheVariants.{Done}
-use Rattle.group.proofs.Proposes.{trip_refuses, trip_done}
+use Rattle.group.proofs.Proposes.{trip_refuses}
 use Rattle.group.proofs.row.Row.trip.Goals as goal
 
 pub returns-in_err-proposal : goal.returns-in_err-proposal
@@ -16,13 +15,3 @@ returns-in_err-proposal g c =
     let p = err_from_is_err_and c.from_residual.result c.from_residual.ensures.1 in
     subst (λ r. TripDoes g.M.Memory.named (world_of t m s) c.args.bed c.args.at (map_ok (λ _. Done) r) (world_of t m s)) (sym (p.1 ∙ ap Err p.2))
     (trip_refuses g.M.Memory.named (world_of t m s) c.args.bed c.args.at _ _ (c.in_err-proposal.ensures m s))
-
-pub returns : goal.returns
-returns g c =
-    let t = c.args.self.now.table in
-    let m = g.M.Memory.holds c.args.self.now.memory in
-    let m' = g.M.Memory.holds c.torn_keep.new.self in
-    let s = g.S.DecisionService.board c.args.self.now.service in
-    let j = c.in_ok-proposal.proposal in
-    trip_done t m s c.args.bed j c.in_ok-proposal.ensures g.M.Memory.named c.args.at m' c.cut.new.self
-    (subst (λ (v : List ℕ). Tears g.M.Memory.named m c.args.bed j.round v c.args.at m') c.as_slice-bytes.ensures c.torn_keep.ensures) c.cut.ensures

@@ -1,16 +1,9 @@
-use Rattle.std.proofs.Common.{Ok, Err, refl, ap, ◌∙◌, inr}
+use Rattle.std.proofs.Common.{Ok, refl, ◌∙◌, inr}
 use Rattle.std.proofs.lemmas.List.{length-set}
-use Rattle.std.proofs.lemmas.Result.{err_from_is_err_and}
-use Rattle.codec.specs.Chain.{map_ok}
 use Rattle.group.specs.declared.bed.Event.TheVariants as ev
 use Rattle.group.specs.declared.call.Reply.TheVariants.{Done}
-use Rattle.group.proofs.Tables.{table_changed, table_sound, runs, refused_running, admits_running}
+use Rattle.group.proofs.Tables.{table_changed, table_sound, runs, admits_running}
 use Rattle.group.proofs.table.Table.off.Goals as goal
-
-pub returns-in_err-index : goal.returns-in_err-index
-returns-in_err-index c kept board =
-    let p = err_from_is_err_and c.from_residual.result c.from_residual.ensures.1 in
-    refused_running c.args.self.now kept board c.args.bed ev.Off _ p.0 (inr refl) (ap Err p.2 ∙ c.in_err-index.ensures) (ap (map_ok (λ _. Done)) p.1)
 
 pub invariant_of-self : goal.invariant_of-self
 invariant_of-self c =
