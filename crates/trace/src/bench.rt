@@ -1,6 +1,6 @@
 // The memory and the service that the lines are about.
 use super::calls::{MemoryCall, answer_text, memory_text, poll_text, put_text};
-use super::line::Words;
+use super::line::{Words, number};
 use anyhow::bail;
 use decision::first_comer::FirstComer;
 use decision::majority::Majority;
@@ -111,13 +111,18 @@ impl Bench {
                 slot: words.number()?,
                 bytes: words.bytes(heap)?,
             },
-            "torn" => MemoryCall::Torn {
-                bed: words.number()?,
-                slot: words.number()?,
-                at: words.number()?,
-                junk: words.byte()?,
-                bytes: words.bytes(heap)?,
-            },
+            "torn" => {
+                let (bed, slot, at) = (words.word(), words.word(), words.word());
+                // The junk is tested before the words that stand before it.
+                let junk = words.byte()?;
+                MemoryCall::Torn {
+                    bed: number(bed)?,
+                    slot: number(slot)?,
+                    at: number(at)?,
+                    junk,
+                    bytes: words.bytes(heap)?,
+                }
+            }
             "read" => MemoryCall::Read {
                 bed: words.number()?,
                 slot: words.number()?,
@@ -148,9 +153,11 @@ impl Bench {
             "first" => self.begin(heap, name, BenchService::first(words.number()?)),
             "majority" => self.begin(heap, name, BenchService::majority(words.number()?)),
             "put" => {
-                let (bed, round) = (words.number()?, words.number()?);
+                let (bed, round) = (words.word(), words.word());
+                // The bytes are tested before the words that stand before them.
                 let bytes = words.bytes(heap)?;
-                self.service.put(heap, bed, round, bytes.as_slice())
+                self.service
+                    .put(heap, number(bed)?, number(round)?, bytes.as_slice())
             }
             "poll" => self.service.poll(heap, words.number()?),
             _ => self.memory_line(heap, name, words),

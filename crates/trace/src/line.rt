@@ -9,6 +9,12 @@ pub struct Words<'a> {
     rest: Split<'a, char>,
 }
 
+/// The number that a word is.
+pub fn number(word: Option<&str>) -> anyhow::Result<u32> {
+    let digits = word.context("a number is missing")?;
+    Ok(digits.parse::<u32>()?)
+}
+
 impl<'a> Words<'a> {
     pub fn new(line: &'a str) -> Words<'a> {
         Words {
@@ -22,10 +28,14 @@ impl<'a> Words<'a> {
         self.rest.next().unwrap_or("")
     }
 
+    /// The next word, if there is one.
+    pub fn word(&mut self) -> Option<&'a str> {
+        self.rest.next()
+    }
+
     /// The number that the next word is.
     pub fn number(&mut self) -> anyhow::Result<u32> {
-        let digits = self.rest.next().context("a number is missing")?;
-        Ok(digits.parse::<u32>()?)
+        number(self.word())
     }
 
     /// The low eight bits of the number that the next word is.
