@@ -70,6 +70,9 @@ scaled_none (Err c) = refl
 pub read_start : (bs : List ℕ) (at : ℕ) → So bs at 0 0 1 at
 read_start bs at = scaled_none (groups_at bs 0 number_bytes at)
 
+pub read_ends : (bs : List ℕ) (at i v s next : ℕ) → i < number_bytes → So bs at i v s next → length bs ≤ next → Err Ends ≡ groups_at bs 0 number_bytes at
+read_ends bs at i v s next h so n = grind (arith, so_next bs at i v s next h so, group_none bs i (number_bytes - (i + 1)) next n)
+
 pub read_long : (bs : List ℕ) (at i v s next : ℕ) → i < number_bytes → So bs at i v s next → next < length bs → get_or bs next 0 ≡ 0 → 0 < i
     → Err NotShortest ≡ groups_at bs 0 number_bytes at
 read_long bs at i v s next h so n z p = grind (arith, nat_tests, so_next bs at i v s next h so)
@@ -111,6 +114,9 @@ below_next v s b l k = grind (arith, mul-le-mul {n₁ = b} {m₁ = s} {n₂ = 12
 
 pub room_next : (i s : ℕ) → s ≡ room i → s * 128 ≡ room (i + 1)
 room_next i s e = rw add-one (omega arith)
+
+pub scale_fits : (i s : ℕ) → i < number_bytes → s ≡ room i → s * 128 ≤ number_end
+scale_fits i s h e = let r : room (suc i) ≤ room number_bytes = room_more (suc i) number_bytes (omega arith) in omega arith
 
 -- ---- the form
 

@@ -1,8 +1,8 @@
 -- Tickets: what is written is read again, what is read has one form, and a form has at most eight bytes.
-use Rattle.std.proofs.Common.{◌≡◌, ℕ, ◌+◌, ◌<◌, ◌≤◌, List, ◌++◌, length, drop, Ok, ap, ◌∙◌, subst, arith}
+use Rattle.std.proofs.Common.{◌≡◌, ℕ, ◌+◌, ◌-◌, ◌<◌, ◌≤◌, List, ◌++◌, length, take, drop, Ok, sym, ap, ◌∙◌, subst, arith}
 use Rattle.std.proofs.lemmas.Grind.{common_steps}
 use Rattle.std.proofs.lemmas.Bool.Decides.{nat_tests}
-use Rattle.std.proofs.lemmas.List.{append_assoc, length-append}
+use Rattle.std.proofs.lemmas.List.{append_assoc, length-append, length-drop, take_at}
 use Rattle.codec.specs.Limits.{max_beds, number_end, max_paths, min_number, max_number, max_sheet}
 use Rattle.codec.specs.Number.{form, Bytes}
 use Rattle.codec.specs.Ranged.{ranged_at}
@@ -73,6 +73,14 @@ ticket_only n bs at t next small q =
       within = r4.0.within;
     } in
     subst (λ (x : Ticket × ℕ). TicketRead n bs at x.0 x.1) s w
+
+-- a ticket's stretch of the bytes is its form
+pub ticket_stretch : (n : ℕ) (bs : List ℕ) (at : ℕ) (t : Ticket) (next : ℕ) → TicketRead n bs at t next → take (next - at) (drop at bs) ≡ ticket_bytes t
+ticket_stretch n bs at t next r =
+    let l : length bs - at ≡ length (ticket_bytes t) + (length bs - next) =
+    sym (length-drop at bs) ∙ ap length r.bytes ∙ length-append (ticket_bytes t) (drop next bs) ∙ ap (λ (k : ℕ). length (ticket_bytes t) + k) (length-drop next bs) in
+    let k : length (ticket_bytes t) ≡ next - at = omega (arith, r.after, r.within) in
+    ap (take (next - at)) r.bytes ∙ take_at (ticket_bytes t) (drop next bs) (next - at) k
 
 pub ticket-length : (t : Ticket) → length (ticket_bytes t) ≡ length (form t.paths) + length (form t.origin) + length (form t.number) + length (form t.sheet)
 unfolding ticket_bytes

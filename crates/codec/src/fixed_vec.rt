@@ -182,8 +182,11 @@ impl<T: Copy + Default, const CAP: usize> TryFrom<&[T]> for FixedVec<T, CAP> {
         if items.len() > CAP {
             return Err(Full);
         }
-        let mut all = FixedVec::new();
-        all.extend_from_slice(items);
-        Ok(all)
+        let mut places = [T::default(); CAP];
+        places[..items.len()].copy_from_slice(items);
+        Ok(FixedVec {
+            places,
+            len: items.len(),
+        })
     }
 }

@@ -85,30 +85,30 @@ impl fmt::Display for NumberFault {
 }
 
 // What the groups of seven bits from `at` on come to, and the offset after them.
-#[tactic(auto, using(crate::proofs::Numbers::window_at, crate::proofs::Numbers::read_long, crate::proofs::Numbers::read_last))]
+#[tactic(auto, using(crate::proofs::Numbers::read_ends, crate::proofs::Numbers::read_long, crate::proofs::Numbers::read_last))]
 fn read_groups(bytes: &[u8], at: usize) -> Result<(u32, usize), NumberCause>
     ensures value { result ≡ groups_at bytes.now 0 number_bytes at }
     ensures within { IfOk result (λ p. (at < p.1) × (p.1 ≤ length bytes.now) × (p.0 < number_end)) }
 {
-    let rest = &bytes[at.min(bytes.len())..];
-    let groups = &rest[..rest.len().min(NUMBER_BYTES)];
     let mut value: u32 = 0;
     let mut scale: u32 = 1;
-    for (i, byte) in groups.iter().enumerate() {
-        if *byte == 0 && i > 0 {
-            return Err(NumberCause::NotShortest);
+    let mut next = at;
+    // A fixed number of turns, and no iterator over what is left of the bytes: the compiler writes the turns out one by one.
+    for i in 0..NUMBER_BYTES {
+        let Some(&byte) = bytes.get(next) else {
+            return Err(NumberCause::Ends);
+        };
+        next += 1;
+        if byte < 128 {
+            if byte == 0 && i > 0 {
+                return Err(NumberCause::NotShortest);
+            }
+            return Ok((value + u32::from(byte) * scale, next));
         }
-        if *byte < 128 {
-            return Ok((value + u32::from(*byte) * scale, at + i + 1));
-        }
-        value += u32::from(*byte - 128) * scale;
+        value += u32::from(byte - 128) * scale;
         scale *= 128;
     }
-    if groups.len() < NUMBER_BYTES {
-        Err(NumberCause::Ends)
-    } else {
-        Err(NumberCause::NotShortest)
-    }
+    Err(NumberCause::NotShortest)
 }
 
 /// The number that begins at `at`, and the offset after it.

@@ -63,8 +63,10 @@ fn packet_form(
 ) -> Option<FixedVec<u8, MAX_PACKET_BYTES>>
     ensures { HasBytes (SoundPacket beds.count bed round tickets.now) (packet_bytes bed round tickets.now) result }
 {
-    let sound = is_sound(tickets, beds, PACKET_TICKETS);
-    if !sound || bed >= beds.count() || u32::from(round) > MAX_ROUND {
+    if bed >= beds.count() || u32::from(round) > MAX_ROUND {
+        return None;
+    }
+    if !is_sound(tickets, beds, PACKET_TICKETS) {
         return None;
     }
     let mut form = FixedVec::new();

@@ -86,11 +86,12 @@ impl Ticket {
     }
 
     /// Whether the two have one identity.
+    // Field by field and no comparison of pairs, which takes twice the time: a list is searched for each ticket that is read.
     #[tactic(auto, unfolding(crate::specs::Ticket::same_identity))]
     pub fn same_identity(&self, other: &Ticket) -> bool
         ensures { result ≡ same_identity self.now other.now }
     {
-        (self.origin, self.number) == (other.origin, other.number)
+        self.origin == other.origin && self.number == other.number
     }
 
     /// Whether every field is in its range, for a group of so many beds.
