@@ -4,7 +4,6 @@ use Rattle.std.proofs.lemmas.Grind.{common_steps}
 use Rattle.std.proofs.lemmas.Bool.Decides.{nat_tests}
 use Rattle.std.proofs.lemmas.Bool.{cases_eq, cases_lt, cases_Bool, cond-true, cond-false, eq-eqb, le-leb, lt-leb}
 use Rattle.codec.specs.Limits.{max_batch_bytes}
-use Rattle.codec.proofs.Values.{value_some, value_most}
 use Rattle.memory.specs.Keep.{keep_bytes}
 use Rattle.memory.specs.declared.keep.Keep.{Keep}
 use Rattle.memory.specs.Chip.{slot_cells, mark_place, chip_cells, start, keep_place, written, full, slot_holds, chip_holds, keep_cells, torn_cells}
@@ -15,7 +14,7 @@ use Rattle.memory.proofs.ChipWrites.{hit, missed, Written, written_is, length-wr
 
 -- a keep is within the limits
 pub within_keep : (k : Keep) → Within k.place.bed k.place.slot (length (keep_bytes k))
-within_keep k = record { place = k.place.in_place; some = value_some k.value; most = value_most k.value }
+within_keep k = k.within
 
 -- what a torn keep leaves in its slot
 pub record SlotTorn (before after : List ℕ) (p : ℕ) (bytes : List ℕ) («at» : ℕ) : Type 0 where

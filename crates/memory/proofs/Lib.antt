@@ -2,3 +2,4 @@ pub mod Tables
 pub mod ChipWrites
 pub mod ChipSlots
 pub mod ChipKeeps
+pub mod KeepAnswers

@@ -1,6 +1,5 @@
 -- Where a keep goes on a chip, and which bytes it keeps; assumes nothing.
 use Rattle.std.specs.Prelude.{ℕ, List}
-use Rattle.codec.specs.Value.{value_bytes}
 use Rattle.memory.specs.Chip.{start}
 use Rattle.memory.specs.declared.place.Place.{Place}
 use Rattle.memory.specs.declared.keep.Keep.{Keep}
@@ -13,4 +12,4 @@ abbrev pub keep_start : Keep → ℕ
 keep_start k = place_start k.place
 
 abbrev pub keep_bytes : Keep → List ℕ
-keep_bytes k = value_bytes k.value
+keep_bytes k = k.bytes.now

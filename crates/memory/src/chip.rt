@@ -9,7 +9,6 @@
 // The slot of bed b and slot s begins at cell 67 × (32 × b + s). A keep writes the length, the bytes and last the mark, so
 // a slot whose keep was broken off is empty.
 ghost use Rattle.std.specs.Prelude.{◌≡◌, ℕ, ◌+◌, ◌*◌, ◌<◌, ◌≤◌, List, length, if◌then◌else◌, None, Ok, Err, nat_lt, slice_set};
-ghost use Rattle.codec.specs.Value.{value_bytes};
 ghost use Rattle.memory.specs.Meaning.{InPlace, Within, behind, KeepAnswer, Keeps, Tears};
 ghost use Rattle.memory.specs.Chip.{chip_cells, slot_cells, chip_named, start, slot_holds, chip_holds, keep_place, keep_cell, written, keep_cells, torn_cells, Blank};
 ghost use Rattle.memory.specs.ChipBounds.{chip_bounded};
@@ -21,7 +20,6 @@ use super::memory::{Memory, keep_again};
 use super::place::Place;
 use super::refusal::MemoryRefusal;
 use codec::limits::MAX_BATCH_BYTES;
-use codec::value::Value;
 
 /// The cells of a chip.
 pub const CELLS: usize = 17_152;
@@ -73,14 +71,13 @@ fn slot_start(place: Place) -> usize
 }
 
 // What cell `i` of a keep is to hold.
-fn keep_cell(value: &Value, i: usize) -> u8
-    ensures { result ≡ keep_cell (value_bytes value.now) i }
+fn keep_cell(keep: &Keep, i: usize) -> u8
+    ensures { result ≡ keep_cell (keep_bytes keep.now) i }
 {
-    let bytes = value.as_slice();
     if i == 0 {
-        bytes.len() as u8
+        keep.bytes.len() as u8
     } else {
-        bytes.get(i - 1).copied().unwrap_or(MARK)
+        keep.bytes.get(i - 1).copied().unwrap_or(MARK)
     }
 }
 
@@ -92,10 +89,10 @@ fn keep_place(len: usize, i: usize) -> usize
 }
 
 // How many cells a keep writes.
-fn cell_count(value: &Value) -> usize
-    ensures { result ≡ length (value_bytes value.now) + chip_named }
+fn cell_count(keep: &Keep) -> usize
+    ensures { result ≡ length (keep_bytes keep.now) + chip_named }
 {
-    value.as_slice().len() + OWN_CELLS
+    keep.bytes.len() + OWN_CELLS
 }
 
 impl Chip<'_> {
@@ -116,7 +113,7 @@ impl Chip<'_> {
         ensures { self.new.cells.now ≡ slice_set self.old.cells.now (keep_start keep.now + keep_place (length (keep_bytes keep.now)) i) cell }
     {
         let p = slot_start(keep.place);
-        self.cells[p + keep_place(keep.value.as_slice().len(), i)] = cell;
+        self.cells[p + keep_place(keep.bytes.len(), i)] = cell;
     }
 
     // Writes the first `count` cells of a keep one by one, in their order: power can fail between any two.
@@ -124,7 +121,7 @@ impl Chip<'_> {
         ensures { self.new.cells.now ≡ written self.old.cells.now (keep_start keep.now) (keep_bytes keep.now) count }
     {
         for i in 0..count {
-            self.write_cell(keep, i, keep_cell(&keep.value, i));
+            self.write_cell(keep, i, keep_cell(keep, i));
         }
     }
 
@@ -134,9 +131,9 @@ impl Chip<'_> {
         ensures cells { self.new.cells.now ≡ keep_cells self.old.cells.now (keep_start keep.now) (keep_bytes keep.now) }
     {
         match self.held(keep.place) {
-            Some(old) => keep_again(old, keep.value.as_slice()),
+            Some(old) => keep_again(old, keep.bytes),
             None => {
-                self.write_cells(keep, cell_count(&keep.value));
+                self.write_cells(keep, cell_count(keep));
                 Ok(())
             }
         }
@@ -150,7 +147,7 @@ impl Chip<'_> {
         if self.held(keep.place).is_some() {
             return;
         }
-        let count = cell_count(&keep.value);
+        let count = cell_count(keep);
         if at >= count {
             self.write_cells(keep, count);
         } else {

@@ -1,25 +1,28 @@
 // What a keep is to do.
 ghost use Rattle.std.specs.Prelude.{◌≡◌, length, MatchOption};
-ghost use Rattle.codec.specs.Value.{value_bytes};
 ghost use Rattle.memory.specs.Meaning.{Within};
 
+use super::limits::within;
 use super::place::Place;
-use codec::value::Value;
 
-/// A value, and the place where it is to be kept.
+/// Bytes, and the place where they are to be kept.
+// The bytes are lent, so that none are copied before their slot is looked at.
 #[derive(Drop)]
-pub(crate) struct Keep {
+pub(crate) struct Keep<'a> {
     pub(crate) place: Place,
-    pub(crate) value: Value,
+    pub(crate) bytes: &'a [u8],
+    ghost within: { Within place.bed place.slot (length bytes.now) },
 }
 
-impl Keep {
+impl<'a> Keep<'a> {
     /// The keep of these bytes there, if it is within the limits.
-    pub(crate) fn new(bed: u32, slot: u32, bytes: &[u8]) -> Option<Keep>
-        ensures { MatchOption result (Within bed slot (length bytes.now) → ⊥) (λ k. (k.place.bed ≡ bed) × (k.place.slot ≡ slot) × (value_bytes k.value ≡ bytes.now)) }
+    pub(crate) fn new(bed: u32, slot: u32, bytes: &'a [u8]) -> Option<Keep<'a>>
+        ensures { MatchOption result (Within bed slot (length bytes.now) → ⊥) (λ k. (k.place.bed ≡ bed) × (k.place.slot ≡ slot) × (k.bytes.now ≡ bytes.now)) }
     {
+        if !within(bed, slot, bytes.len()) {
+            return None;
+        }
         let place = Place::new(bed, slot)?;
-        let value = Value::new(bytes)?;
-        Some(Keep { place, value })
+        Some(Keep { place, bytes })
     }
 }

@@ -53,11 +53,11 @@ impl Memory for Table {
     }
 
     fn keep(&mut self, bed: u32, slot: u32, bytes: &[u8]) -> Result<(), MemoryRefusal> {
-        let Keep { place, value } = Keep::new(bed, slot, bytes).ok_or(MemoryRefusal::Limits)?;
+        let Keep { place, bytes } = Keep::new(bed, slot, bytes).ok_or(MemoryRefusal::Limits)?;
         match self.held(place) {
             Some(old) => keep_again(old, bytes),
             None => {
-                self.slots[place.index()] = Some(value);
+                self.slots[place.index()] = Value::new(bytes);
                 Ok(())
             }
         }
@@ -75,10 +75,10 @@ impl Memory for Table {
         if (at as usize) < bytes.len() + Self::NAMED {
             return;
         }
-        if let Some(Keep { place, value }) = Keep::new(bed, slot, bytes)
+        if let Some(Keep { place, bytes }) = Keep::new(bed, slot, bytes)
             && self.held(place).is_none()
         {
-            self.slots[place.index()] = Some(value);
+            self.slots[place.index()] = Value::new(bytes);
         }
     }
 }
