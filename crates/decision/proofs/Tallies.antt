@@ -27,6 +27,11 @@ pub some_is : (o : Option (List ℕ)) → is_some o ≡ true → (v : List ℕ) 
 some_is (Some v) e = (v, refl)
 some_is None e = absurd cc
 
+-- no more are counted than there are beds
+pub proposers_few : (s : Board) (round k : ℕ) → proposers s round k ≤ k
+proposers_few s round zero = omega arith
+proposers_few s round (suc k) = let r = proposers_few s round k in grind arith
+
 -- where some are counted, there is one
 counted_one : (s : Board) (round k : ℕ) → 0 < proposers s round k → (bed : ℕ) × (bed < k) × (is_some (s.proposal bed round) ≡ true)
 counted_one s round zero h = absurd (omega arith)

@@ -1,10 +1,13 @@
 // The proposals and decisions of a service, in a fixed table.
-use super::limits::ROUNDS;
+ghost use Rattle.std.specs.Prelude.{◌≡◌, ◌≤◌, length, is_some, count_by};
+ghost use Rattle.codec.specs.Limits.{max_beds};
+
+use super::limits::{ALL_DECISIONS, ALL_PROPOSALS};
 use super::refusal::DecisionRefusal;
 use super::round::Round;
 use super::service::PutAnswer;
 use codec::beds::Beds;
-use codec::limits::MAX_BEDS;
+use codec::limits::{MAX_BATCH_BYTES, MAX_BEDS};
 use codec::value::Value;
 
 /// What stands in one round: for each bed a proposal or none, and a decision or none.
@@ -18,7 +21,7 @@ struct Tally {
 #[derive(Drop)]
 pub(crate) struct Ballots {
     beds: Beds,
-    rounds: [Tally; ROUNDS as usize],
+    rounds: [Tally; ALL_DECISIONS],
 }
 
 impl Tally {
@@ -47,12 +50,7 @@ impl Tally {
     fn proposers(&self, beds: Beds) -> usize
         ensures { result ≡ count_by is_some (take beds.count self.now.proposals) }
     {
-        let beds = usize::from(beds.count());
-        self.proposals
-            .iter()
-            .take(beds)
-            .filter(|proposal| proposal.is_some())
-            .count()
+        count_proposals(&self.proposals[..usize::from(beds.count())])
     }
 
     // The proposal of the lowest bed that has one.
@@ -65,6 +63,19 @@ impl Tally {
             .take(beds)
             .find_map(|proposal| *proposal)
     }
+}
+
+// How many places of a row hold a proposal. It is a function of its own, since only a list known to be short can be summed.
+fn count_proposals(row: &[Option<Value>]) -> usize
+    requires { length row.now ≤ max_beds }
+    ensures { result ≡ count_by is_some row.now }
+{
+    row.iter()
+        .map(|proposal| match proposal {
+            Some(_) => 1,
+            None => 0,
+        })
+        .sum()
 }
 
 impl Ballots {
@@ -84,10 +95,10 @@ impl Ballots {
             proposals: [None; MAX_BEDS as usize],
             decision: None,
         };
-        Ok(Ballots {
-            beds,
-            rounds: [empty; ROUNDS as usize],
-        })
+        let rounds = [empty; ALL_DECISIONS];
+        // There is room for all proposals, and no more.
+        prove_eq!(rounds.len() * empty.proposals.len(), ALL_PROPOSALS);
+        Ok(Ballots { beds, rounds })
     }
 
     pub(crate) fn beds(&self) -> Beds
@@ -128,13 +139,16 @@ impl Ballots {
         ensures proposes { Proposes (board_of self.old) bed round.number bytes.now result (board_of self.new) }
         ensures refused { OnErr result (self.new ≡ self.old) }
     {
-        if bed >= u32::from(self.beds.count()) {
+        if bed >= u32::from(self.beds.count())
+            || bytes.is_empty()
+            || bytes.len() > MAX_BATCH_BYTES
+        {
             return Err(DecisionRefusal::Limits);
         }
-        let value = Value::new(bytes).ok_or(DecisionRefusal::Limits)?;
         if self.proposal(bed, round).is_some() {
             return Ok(PutAnswer::Had);
         }
+        let value = Value::new(bytes).ok_or(DecisionRefusal::Limits)?;
         self.rounds[round.index()].propose(bed as usize, value);
         Ok(PutAnswer::Taken)
     }
