@@ -1,5 +1,5 @@
 -- Steps that a group can take: for each call that is accepted, a world that may stand after it.
-use Rattle.std.proofs.Common.{◌≡◌, ℕ, ◌+◌, ◌<◌, ◌≤◌, false, cond, ◌&&◌, eqb, List, [], length, set, is_some, Some, None, Ok, Err, Option, Result, sym, refl, ap, ◌∙◌, subst, inl, inr, arith}
+use Rattle.std.proofs.Common.{◌≡◌, ℕ, ◌+◌, ◌-◌, ◌<◌, ◌≤◌, false, cond, ◌&&◌, eqb, List, [], length, replicate, set, is_some, Some, None, Ok, Err, Option, Result, sym, refl, ap, ◌∙◌, subst, inl, inr, arith}
 use Rattle.std.proofs.lemmas.Bool.{cases_Bool, eqb-true, ne_eqb, and_parts, cond-true, cond-false, eq-eqb, and_from, both_ways}
 use Rattle.codec.specs.Limits.{max_beds, max_batch_bytes}
 use Rattle.codec.specs.Ticket.{InRange}
@@ -98,9 +98,9 @@ puts_new s b r v within none =
       settles = record { other_rounds = λ k d. refl; stays = λ u e. e; chosen = λ u e f. absurd (not_none (s.decision r) u f e) };
     }
 
--- bytes as a value
+-- bytes as a value, with room for 65 as every value has
 abbrev pub value_of : (v : List ℕ) → 1 ≤ length v → length v ≤ max_batch_bytes → Value
-value_of v some most = record { bytes = record { items = v; spare = [] }; some = some; most = most }
+value_of v some most = record { bytes = record { items = v; spare = replicate (max_batch_bytes - length v) 0 }; some = some; most = most }
 
 -- a decision more, for a proposal that stands
 abbrev pub with_decision : Board → ℕ → List ℕ → Board
