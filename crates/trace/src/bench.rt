@@ -7,20 +7,32 @@ use decision::majority::Majority;
 use decision::refusal::DecisionRefusal;
 use memory::chip::{CELLS, Chip};
 use memory::table::Table;
-use std::alloc::Global;
+use std::alloc::{AllocError, Global};
 
+// On the heap, as the services: what is taken into use is moved into its place, and a pointer is moved in no time.
 #[derive(Drop)]
 enum BenchMemory {
-    Table(Table),
+    Table(Box<Table>),
     /// The cells of a chip.
-    Chip([u8; CELLS]),
+    Chip(Box<[u8; CELLS]>),
 }
 
 impl BenchMemory {
+    // Out of line, here and below: a function clears its stack where it begins, and no other line is to pay for a new memory or service.
+    #[inline(never)]
+    fn table(heap: Global) -> Result<BenchMemory, AllocError> {
+        Ok(BenchMemory::Table(Box::new(heap, Table::new())?))
+    }
+
+    #[inline(never)]
+    fn chip(heap: Global) -> Result<BenchMemory, AllocError> {
+        Ok(BenchMemory::Chip(Box::new(heap, [0; CELLS])?))
+    }
+
     fn call(&mut self, heap: Global, call: &MemoryCall) -> anyhow::Result<String> {
         match self {
-            BenchMemory::Table(table) => memory_text(heap, table, call),
-            BenchMemory::Chip(cells) => memory_text(heap, &mut Chip::new(cells), call),
+            BenchMemory::Table(table) => memory_text(heap, &mut **table, call),
+            BenchMemory::Chip(cells) => memory_text(heap, &mut Chip::new(&mut **cells), call),
         }
     }
 
@@ -36,31 +48,42 @@ impl BenchMemory {
 
 #[derive(Drop)]
 enum BenchService {
-    First(FirstComer),
-    Majority(Majority),
+    First(Box<FirstComer>),
+    Majority(Box<Majority>),
 }
 
 impl BenchService {
-    // Here and below by `?`: a `map` by the case itself is beyond the check today, where the value is a service.
-    fn first(beds: u32) -> Result<BenchService, DecisionRefusal> {
-        Ok(BenchService::First(FirstComer::new(beds)?))
+    // A refusal is the answer of the line, and want of memory the end of the program: so the one lies within the other.
+    #[inline(never)]
+    fn first(heap: Global, beds: u32) -> Result<Result<BenchService, DecisionRefusal>, AllocError> {
+        match FirstComer::new(beds) {
+            Ok(service) => Ok(Ok(BenchService::First(Box::new(heap, service)?))),
+            Err(refusal) => Ok(Err(refusal)),
+        }
     }
 
-    fn majority(beds: u32) -> Result<BenchService, DecisionRefusal> {
-        Ok(BenchService::Majority(Majority::new(beds)?))
+    #[inline(never)]
+    fn majority(
+        heap: Global,
+        beds: u32,
+    ) -> Result<Result<BenchService, DecisionRefusal>, AllocError> {
+        match Majority::new(beds) {
+            Ok(service) => Ok(Ok(BenchService::Majority(Box::new(heap, service)?))),
+            Err(refusal) => Ok(Err(refusal)),
+        }
     }
 
     fn put(&mut self, heap: Global, bed: u32, round: u32, bytes: &[u8]) -> anyhow::Result<String> {
         match self {
-            BenchService::First(service) => put_text(heap, service, bed, round, bytes),
-            BenchService::Majority(service) => put_text(heap, service, bed, round, bytes),
+            BenchService::First(service) => put_text(heap, &mut **service, bed, round, bytes),
+            BenchService::Majority(service) => put_text(heap, &mut **service, bed, round, bytes),
         }
     }
 
     fn poll(&mut self, heap: Global, round: u32) -> anyhow::Result<String> {
         match self {
-            BenchService::First(service) => poll_text(heap, service, round),
-            BenchService::Majority(service) => poll_text(heap, service, round),
+            BenchService::First(service) => poll_text(heap, &mut **service, round),
+            BenchService::Majority(service) => poll_text(heap, &mut **service, round),
         }
     }
 }
@@ -74,11 +97,11 @@ pub struct Bench {
 
 impl Bench {
     /// A table, and a first-comer service for one bed.
-    pub fn new() -> Bench {
-        Bench {
-            memory: BenchMemory::Table(Table::new()),
-            service: BenchService::First(FirstComer::new(1).unwrap()),
-        }
+    pub fn new(heap: Global) -> Result<Bench, AllocError> {
+        Ok(Bench {
+            memory: BenchMemory::table(heap)?,
+            service: BenchService::First(Box::new(heap, FirstComer::new(1).unwrap())?),
+        })
     }
 
     // Takes a new service into use, unless it was refused. The line prints 0, or the number of the refusal.
@@ -139,19 +162,19 @@ impl Bench {
         let name = words.name();
         match name {
             "table" => {
-                self.memory = BenchMemory::Table(Table::new());
+                self.memory = BenchMemory::table(heap)?;
                 Ok(format!(in heap; "table\n")?)
             }
             "chip" => {
-                self.memory = BenchMemory::Chip([0; CELLS]);
+                self.memory = BenchMemory::chip(heap)?;
                 Ok(format!(in heap; "chip\n")?)
             }
             "cell" => {
                 self.memory.set_cell(words.number()?, words.byte()?);
                 Ok(String::new(heap))
             }
-            "first" => self.begin(heap, name, BenchService::first(words.number()?)),
-            "majority" => self.begin(heap, name, BenchService::majority(words.number()?)),
+            "first" => self.begin(heap, name, BenchService::first(heap, words.number()?)?),
+            "majority" => self.begin(heap, name, BenchService::majority(heap, words.number()?)?),
             "put" => {
                 let (bed, round) = (words.word(), words.word());
                 // The bytes are tested before the words that stand before them.
